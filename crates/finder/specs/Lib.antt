@@ -1,0 +1,2 @@
+-- What the finder's answers mean.
+pub mod Answers

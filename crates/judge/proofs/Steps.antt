@@ -1,0 +1,239 @@
+-- The cases of the steps by which the code judges, each from facts about numbers. Assumes nothing.
+use Prim.Native.Nat.{ℕ, zero, suc, _+_, _-_, _≤_, _<_}
+use mathlib.Core.Path.{_≡_, refl, sym, _∙_, ap}
+use mathlib.Core.List.{List, [], _∷_, _++_}
+use mathlib.Core.Bool.{Bool, true, false, cond, not, _&&_, _||_}
+use mathlib.Core.Option.{Option, none, some}
+use native.Mathlib.Omega.{arith}
+use borrow.Author.Tests.{eq-eqb, ne-eqb, lt-ltb, le-ltb, le-leb, lt-leb}
+use lib.Dec.{eqb, ltb, leb}
+use lib.ListN.{length, getD, take, drop, length-take, length-drop, List·getD-eq-default}
+use Rattle.wire.specs.Bytes.{part, sameBytes, standsAt}
+use Rattle.eno.specs.Area.{Finding, refused, unreadable, missing, found, Status, saysFound, saysNone, saysUnreadable, saysRefused, status, finding}
+use Rattle.eno.specs.Suboption.{Sent}
+use Rattle.eno.specs.Session.{inHand}
+use Rattle.eno.specs.Judge.{isFresh, isBad, Way, fresh, resumed, ofA, ofB}
+use Rattle.eno.specs.declared.SessionRecord.{SessionRecord}
+use Rattle.eno.specs.declared.InHand.{InHand}
+use Rattle.finder.specs.Answers.{statusOf}
+use Rattle.finder.specs.declared.FindStatus.{FindStatus}
+use Rattle.finder.specs.declared.FindStatus.the-variants as says
+use Rattle.suboptions.specs.declared.Entry.{Entry}
+use Rattle.judge.specs.Quick.{asSent, startsB, matchesAt, wayOfEntries, wayAs, laterOf, betterOf, foundAt, byteBefore, rankOf, notFound}
+use Rattle.judge.specs.declared.Validity.{Validity}
+use Rattle.judge.specs.Answers.{withoutTranscript}
+use Rattle.judge.specs.declared.Reason.the-variants as reason
+use Rattle.judge.specs.declared.Verdict.the-variants as verdict
+use Rattle.judge.specs.declared.Best.{Best}
+
+-- one of two
+module _ {X : Type 0} (b : Bool) (own peer : X) where
+  pub b-own : b ≡ true → own ≡ ofB b own peer
+  unfolding ofB
+  b-own e = rw e
+
+  pub b-peer : b ≡ false → peer ≡ ofB b own peer
+  unfolding ofB
+  b-peer e = rw e
+
+  pub a-peer : b ≡ true → peer ≡ ofA b own peer
+  unfolding ofA
+  a-peer e = rw e
+
+  pub a-own : b ≡ false → own ≡ ofA b own peer
+  unfolding ofA
+  a-own e = rw e
+
+-- the data of a TEP
+module _ (x : Sent) where
+  pub fresh-bare : x .byte < 0x80 → true ≡ isFresh x
+  unfolding isFresh
+  fresh-bare h = simp (lt-ltb _ _ h)
+
+  pub fresh-short : 0x80 ≤ x .byte → ltb (x .len) 9 ≡ isFresh x
+  unfolding isFresh
+  fresh-short h = simp (le-ltb _ _ h)
+
+  module _ (b : Bool) (e : b ≡ isFresh x) where
+    pub bad-fresh : b ≡ true → false ≡ isBad x
+    unfolding isBad
+    bad-fresh t = simp (← e, t)
+
+    pub bad-long : b ≡ false → leb 18 (x .len) ≡ isBad x
+    unfolding isBad
+    bad-long t = simp (← e, t)
+
+-- where B's half begins
+module _ (b : Bool) (role : ℕ) where
+  pub starts-own-first : b ≡ true → role ≡ 0 → (0 ≡ startsB b role) × (0 ≤ 9)
+  unfolding startsB
+  starts-own-first e h = (simp (e, eq-eqb _ _ h), omega arith)
+
+  pub starts-own-second : b ≡ true → (role ≡ 0 → ⊥) → (9 ≡ startsB b role) × (9 ≤ 9)
+  unfolding startsB
+  starts-own-second e h = (simp (e, ne-eqb _ _ h), omega arith)
+
+  pub starts-peer-second : b ≡ false → role ≡ 0 → (9 ≡ startsB b role) × (9 ≤ 9)
+  unfolding startsB
+  starts-peer-second e h = (simp (e, eq-eqb _ _ h), omega arith)
+
+  pub starts-peer-first : b ≡ false → (role ≡ 0 → ⊥) → (0 ≡ startsB b role) × (0 ≤ 9)
+  unfolding startsB
+  starts-peer-first e h = (simp (e, ne-eqb _ _ h), omega arith)
+
+-- the record in hand
+module _ (h : InHand) where
+  pub hand-none : h .held ≡ false → inHand h ≡ none
+  unfolding inHand
+  hand-none e = simp e
+
+  pub hand-some : h .held ≡ true → inHand h ≡ some (h .session)
+  unfolding inHand
+  hand-some e = simp e
+
+module _ (a b : List ℕ) (h : InHand) (ownIsB : Bool) (t inA inB : ℕ) where
+  pub match-none : h .held ≡ false → false ≡ matchesAt a b (inHand h) ownIsB t inA inB
+  unfolding matchesAt
+  match-none e = rw (hand-none h e)
+
+  module _ (held : h .held ≡ true) where
+    pub match-other : (h .session .tep ≡ t → ⊥) → false ≡ matchesAt a b (inHand h) ownIsB t inA inB
+    unfolding matchesAt
+    match-other n = rw (hand-some h held) (simp (ne-eqb _ _ n))
+
+    module _ (same : h .session .tep ≡ t) (from : ℕ) (is : from ≡ startsB ownIsB (h .session .role))
+        (x : Bool) (ex : x ≡ sameBytes (part inA 9 a) (part (9 - from) 9 (h .session .identifier))) where
+      pub match-not : x ≡ false → false ≡ matchesAt a b (inHand h) ownIsB t inA inB
+      unfolding matchesAt
+      match-not e = rw (hand-some h held) (simp (eq-eqb _ _ same, ← is, ← ex, e))
+
+      pub match-if : x ≡ true → (y : Bool) → y ≡ sameBytes (part inB 9 b) (part from 9 (h .session .identifier)) → y ≡ matchesAt a b (inHand h) ownIsB t inA inB
+      unfolding matchesAt
+      match-if e y ey = rw (hand-some h held) (simp (eq-eqb _ _ same, ← is, ← ex, e, ← ey))
+
+-- the way in which a TEP is valid
+module _ (a b : List ℕ) (hand : Option SessionRecord) (ownIsB : Bool) (t : ℕ) (ea eb : Entry) where
+  pub way-not-a : (ea .times ≡ 1 → ⊥) → none ≡ wayOfEntries a b hand ownIsB t ea eb
+  unfolding wayOfEntries
+  way-not-a h = simp (ne-eqb _ _ h)
+
+  module _ (one : ea .times ≡ 1) where
+    pub way-not-b : (eb .times ≡ 1 → ⊥) → none ≡ wayOfEntries a b hand ownIsB t ea eb
+    unfolding wayOfEntries
+    way-not-b h = simp (eq-eqb _ _ one, ne-eqb _ _ h)
+
+    module _ (once : eb .times ≡ 1) (bad-a : Bool) (ba : bad-a ≡ isBad (asSent ea)) where
+      pub way-bad-a : bad-a ≡ true → none ≡ wayOfEntries a b hand ownIsB t ea eb
+      unfolding wayOfEntries
+      way-bad-a e = simp (eq-eqb _ _ one, eq-eqb _ _ once, ← ba, e)
+
+      module _ (good-a : bad-a ≡ false) (bad-b : Bool) (bb : bad-b ≡ isBad (asSent eb)) where
+        pub way-bad-b : bad-b ≡ true → none ≡ wayOfEntries a b hand ownIsB t ea eb
+        unfolding wayOfEntries
+        way-bad-b e = simp (eq-eqb _ _ one, eq-eqb _ _ once, ← ba, good-a, ← bb, e)
+
+        module _ (good-b : bad-b ≡ false) (fresh-b : Bool) (fb : fresh-b ≡ isFresh (asSent eb)) where
+          pub way-fresh : fresh-b ≡ true → some fresh ≡ wayOfEntries a b hand ownIsB t ea eb
+          unfolding wayOfEntries
+          way-fresh e = simp (eq-eqb _ _ one, eq-eqb _ _ once, ← ba, good-a, ← bb, good-b, ← fb, e)
+
+          module _ (long-b : fresh-b ≡ false) (fresh-a : Bool) (fa : fresh-a ≡ isFresh (asSent ea)) where
+            pub way-fresh-a : fresh-a ≡ true → none ≡ wayOfEntries a b hand ownIsB t ea eb
+            unfolding wayOfEntries
+            way-fresh-a e = simp (eq-eqb _ _ one, eq-eqb _ _ once, ← ba, good-a, ← bb, good-b, ← fb, long-b, ← fa, e)
+
+            module _ (long-a : fresh-a ≡ false) (m : Bool) (is : m ≡ matchesAt a b hand ownIsB t (ea .start) (eb .start)) where
+              pub way-resumed : m ≡ true → some resumed ≡ wayOfEntries a b hand ownIsB t ea eb
+              unfolding wayOfEntries
+              way-resumed e = simp (eq-eqb _ _ one, eq-eqb _ _ once, ← ba, good-a, ← bb, good-b, ← fb, long-b, ← fa, long-a, ← is, e)
+
+              pub way-no-match : m ≡ false → none ≡ wayOfEntries a b hand ownIsB t ea eb
+              unfolding wayOfEntries
+              way-no-match e = simp (eq-eqb _ _ one, eq-eqb _ _ once, ← ba, good-a, ← bb, good-b, ← fb, long-b, ← fa, long-a, ← is, e)
+
+-- the larger start
+module _ (best : Best) (start : ℕ) (again : Bool) where
+  pub later-none : best .found ≡ false → foundAt start again ≡ laterOf best start again
+  unfolding laterOf
+  later-none e = simp e
+
+  pub later-kept : best .found ≡ true → start ≤ best .start → best ≡ laterOf best start again
+  unfolding laterOf
+  later-kept e h = simp (e, le-leb _ _ h)
+
+  pub later-taken : best .found ≡ true → best .start < start → foundAt start again ≡ laterOf best start again
+  unfolding laterOf
+  later-taken e h = simp (e, lt-leb _ _ h)
+
+module _ (s : List ℕ) (at : ℕ) where
+  pub before-none : at ≡ 0 → 0 ≡ byteBefore s at
+  unfolding byteBefore
+  before-none e = simp (eq-eqb _ _ e)
+
+  pub before-past : (at ≡ 0 → ⊥) → length s < at → 0 ≡ byteBefore s at
+  unfolding byteBefore
+  before-past z h =
+      let past : length s ≤ at - 1 = omega arith in
+      let d = List·getD-eq-default s 0 {n = at - 1} past in
+      simp (ne-eqb _ _ z, d)
+
+  pub before-there : (at ≡ 0 → ⊥) → getD s (at - 1) 0 ≡ byteBefore s at
+  unfolding byteBefore
+  before-there z = simp (ne-eqb _ _ z)
+
+-- a finding's rank, from what the companion says
+abbrev rankAs : Status → ℕ
+rankAs (saysRefused n) = 0
+rankAs saysUnreadable = 1
+rankAs saysNone = 2
+rankAs saysFound = 3
+
+rank-by : (f : Finding) → rankAs (status f) ≡ rankOf f
+unfolding status
+rank-by refused = refl
+rank-by (unreadable y) = refl
+rank-by missing = refl
+rank-by (found i n) = refl
+
+pub rank-is : (f : Finding) (x y : FindStatus) → x ≡ y → statusOf x ≡ status f → rankAs (statusOf y) ≡ rankOf f
+rank-is f x y q e = ap (λ z. rankAs (statusOf z)) (sym q) ∙ (ap rankAs e ∙ rank-by f)
+
+-- why two options were not both found, by their ranks
+module _ (own peer : List ℕ) (s p : ℕ) (es : s ≡ rankOf (finding own true)) (ep : p ≡ rankOf (finding peer true)) where
+  pub missed-own-refused : s ≡ 0 → withoutTranscript verdict.Refused ≡ notFound own peer
+  unfolding notFound
+  missed-own-refused h = simp (← es, eq-eqb _ _ h)
+
+  module _ (s0 : s ≡ 0 → ⊥) where
+    pub missed-peer-refused : p ≡ 0 → withoutTranscript verdict.Refused ≡ notFound own peer
+    unfolding notFound
+    missed-peer-refused h = simp (← es, ← ep, ne-eqb _ _ s0, eq-eqb _ _ h)
+
+    module _ (p0 : p ≡ 0 → ⊥) where
+      pub missed-own-unreadable : s ≡ 1 → withoutTranscript (verdict.Plain reason.Unreadable) ≡ notFound own peer
+      unfolding notFound
+      missed-own-unreadable h = simp (← es, ← ep, ne-eqb _ _ s0, ne-eqb _ _ p0, eq-eqb _ _ h)
+
+      module _ (s1 : s ≡ 1 → ⊥) where
+        pub missed-peer-unreadable : p ≡ 1 → withoutTranscript (verdict.Plain reason.Unreadable) ≡ notFound own peer
+        unfolding notFound
+        missed-peer-unreadable h = simp (← es, ← ep, ne-eqb _ _ s0, ne-eqb _ _ p0, ne-eqb _ _ s1, eq-eqb _ _ h)
+
+        pub missed-none : (p ≡ 1 → ⊥) → withoutTranscript (verdict.Plain reason.NoOption) ≡ notFound own peer
+        unfolding notFound
+        missed-none h = simp (← es, ← ep, ne-eqb _ _ s0, ne-eqb _ _ p0, ne-eqb _ _ s1, ne-eqb _ _ h)
+
+-- a better one, by what a TEP's validity is
+module _ (best : Best) (x y : Validity) (start : ℕ) (e : x ≡ y) where
+  pub better-by : betterOf best (wayAs y) start ≡ betterOf best (wayAs x) start
+  better-by = ap (λ v. betterOf best (wayAs v) start) (sym e)
+
+-- a half of an identifier
+pub half-at : (o : List ℕ) (at : ℕ) (identifier : List ℕ) (from e : ℕ) (m : List ℕ) → from ≤ 9 → length identifier ≡ 18 → e ≡ from + 9
+    → m ≡ take (e - from) (drop from identifier) → standsAt o at m ≡ sameBytes (part at 9 o) (part from 9 identifier)
+unfolding standsAt part
+half-at o at identifier from e m h w q p =
+    let n : e - from ≡ 9 = omega arith in
+    let p′ : m ≡ take 9 (drop from identifier) = p ∙ ap (λ k. take k (drop from identifier)) n in
+    let l : length m ≡ 9 = ap length p′ ∙ simp (length-take, length-drop) (omega arith) in
+    ap (λ k. sameBytes (take k (drop at o)) m) l ∙ ap (sameBytes (take 9 (drop at o))) p′

@@ -1,0 +1,3 @@
+-- What the writer's answers mean, and its steps.
+pub mod Answers
+pub mod Steps

@@ -1,0 +1,3 @@
+-- What the walk of an option gives.
+pub mod Summary
+pub mod Laws

@@ -1,0 +1,156 @@
+// The suboptions of an ENO option, read in one walk for all TEPs that the unit knows.
+ghost use mathlib.Core.Path.{_≡_};
+ghost use Rattle.eno.specs.Suboption.{suboptionAt};
+ghost use Rattle.suboptions.specs.Summary.{pieceOf, summaryOf};
+
+// What stands at a place of an option.
+enum SuboptionAt {
+    End,
+    IllFormed,
+    Global {
+        byte: u8,
+        next: usize,
+    },
+    Tep {
+        counted: bool,
+        byte: u8,
+        start: usize,
+        len: usize,
+        next: usize,
+    },
+}
+
+fn suboption_at(option: &[u8], i: usize) -> SuboptionAt
+    ensures { λ r. ⌜ pieceOf r ≡ suboptionAt (now (option .entry)) i ⌝ }
+{
+    if option.len() <= i {
+        return SuboptionAt::End;
+    }
+    let x = option[i];
+    let j = i + 1;
+    if x < 0x20 {
+        return SuboptionAt::Global { byte: x, next: j };
+    }
+    if x < 0x80 {
+        return SuboptionAt::Tep {
+            counted: false,
+            byte: x,
+            start: j,
+            len: 0,
+            next: j,
+        };
+    }
+    if 0xa0 <= x {
+        let len = option.len() - j;
+        return SuboptionAt::Tep {
+            counted: false,
+            byte: x,
+            start: j,
+            len,
+            next: option.len(),
+        };
+    }
+    if option.len() <= j {
+        return SuboptionAt::IllFormed;
+    }
+    let y = option[j];
+    if y < 0xa0 {
+        return SuboptionAt::IllFormed;
+    }
+    let k = j + 1;
+    let n = (x as usize) - 0x7f;
+    if option.len() - k < n {
+        return SuboptionAt::IllFormed;
+    }
+    let next = k + n;
+    SuboptionAt::Tep {
+        counted: true,
+        byte: y,
+        start: k,
+        len: n,
+        next,
+    }
+}
+
+// How often a TEP was sent, and of the last time its byte with v and where its data stands in the option.
+pub struct Entry {
+    pub times: usize,
+    pub byte: u8,
+    pub start: usize,
+    pub len: usize,
+}
+
+// What an option says: b, a, and of each TEP from 21 to 24 how it was sent.
+pub struct Summary {
+    pub ill_formed: bool,
+    pub role: u8,
+    pub aware: bool,
+    pub teps: [Entry; 4],
+}
+
+// The summary of an option, whose suboptions stand behind its kind and length byte.
+pub fn summarize(option: &[u8]) -> Summary
+    ensures { λ r. ⌜ r ≡ summaryOf (now (option .entry)) ⌝ }
+{
+    let never = Entry {
+        times: 0,
+        byte: 0,
+        start: 0,
+        len: 0,
+    };
+    let mut teps = [never; 4];
+    let mut i = 2;
+    let mut first = true;
+    let mut global: u8 = 0;
+    loop {
+        let p = suboption_at(option, i);
+        match p {
+            SuboptionAt::End => {
+                return Summary {
+                    ill_formed: false,
+                    role: global % 2,
+                    aware: global / 2 % 2 == 1,
+                    teps,
+                };
+            }
+            SuboptionAt::IllFormed => {
+                return Summary {
+                    ill_formed: true,
+                    role: 0,
+                    aware: false,
+                    teps: [never; 4],
+                };
+            }
+            SuboptionAt::Global { byte, next } => {
+                if first {
+                    first = false;
+                    global = byte;
+                }
+                i = next;
+            }
+            SuboptionAt::Tep {
+                counted: _,
+                byte,
+                start,
+                len,
+                next,
+            } => {
+                let name = byte % 128;
+                if 0x21 <= name {
+                    if name <= 0x24 {
+                        let k = (name - 0x21) as usize;
+                        let e = teps[k];
+                        let times = e.times + 1;
+                        teps[k] = Entry {
+                            times,
+                            byte,
+                            start,
+                            len,
+                        };
+                    }
+                }
+                i = next;
+            }
+        }
+    }
+}
