@@ -13,6 +13,7 @@ use lib.Dec.{eqb}
 use lib.ListN.{length, getD, take, drop, length-append, length-take, length-drop, take-append-drop, drop-of-length-le}
 use lib.Seq.{drop-cons, drop-drop, take-append-seam, drop-append-seam, getD-drop}
 use Rattle.wire.specs.Bytes.{part}
+use Rattle.wire.specs.ByteLaws.{length-part}
 use Rattle.eno.specs.Walk.{Piece, end, fault, item, Reading, readable, faulty, each, items, itemsOf}
 use Rattle.eno.specs.Area.{Placed, Fault, optionAt, options}
 use Rattle.eno.specs.Laws.Area.{placedAt, OptionCase, one-byte, with-length, option-case, option-onward, option-end, option-zero, option-one, option-long, option-ended}
@@ -78,10 +79,6 @@ split-option s i n two fits =
     ∙ ap₂ (λ x l. x ∷ l) (ap (λ m. getD s m 0) one)
     (ap (λ m. drop m s) e ∙ (sym (take-append-drop (n - 2) (drop (i + 2) s)) ∙ ap (λ l. take (n - 2) (drop (i + 2) s) ++ l) (drop-drop (n - 2) (i + 2) s ∙ ap (λ m. drop m s) f))))
 
-part-length : (s : List ℕ) (i n : ℕ) → i + n ≤ length s → length (part i n s) ≡ n
-unfolding part
-part-length s i n h = simp (length-take, length-drop) (omega arith)
-
 module _ (s : List ℕ) where
   abbrev Fit : TcpOption → List ℕ → Type 0
   Fit o r = IsProper o
@@ -98,7 +95,7 @@ module _ (s : List ℕ) where
       go (with-length k0 k1 two fits ex ej) =
           let n = getD s (i + 1) 0 in
           let v : valueOf s (placedAt s i n) ≡ withData (getD s i 0) (part (i + 2) (n - 2) s) = simp (ne-eqb _ _ k1) in
-          let w = part-length s (i + 2) (n - 2) (omega arith) in
+          let w = length-part (i + 2) (n - 2) s (omega arith) in
           let len : n ≡ length (part (i + 2) (n - 2) s) + 2 = omega arith in
           rw (ex, ej, v) (split-option s i n two fits ∙ ap (λ m. getD s i 0 ∷ m ∷ (part (i + 2) (n - 2) s ++ drop (i + n) s)) len, (k0, k1))
 

@@ -8,6 +8,7 @@ use native.Mathlib.Omega.{arith}
 use lib.ListN.{length, getD, take, drop, length-append, length-take, length-drop, take-append-drop, drop-of-length-le}
 use lib.Seq.{drop-cons, drop-drop, drop-length, take-length, take-append-seam, drop-append-seam}
 use Rattle.wire.specs.Bytes.{part}
+use Rattle.wire.specs.ByteLaws.{length-part}
 use Rattle.eno.specs.Walk.{Piece, end, fault, item, Reading, readable, faulty, each, items, itemsOf}
 use Rattle.eno.specs.Suboption.{Sent, Suboption, global, tep, suboptionAt, suboptions}
 use Rattle.eno.specs.Option.{Content, globalWith, tepWith, encode, encodeAll}
@@ -38,10 +39,6 @@ cut : (o : List ℕ) (i n : ℕ) → drop i o ≡ part i n o ++ drop (i + n) o
 unfolding part
 cut o i n = sym (take-append-drop n (drop i o)) ∙ ap (λ l. take n (drop i o) ++ l) (drop-drop n i o)
 
-part-length : (o : List ℕ) (i n : ℕ) → i + n ≤ length o → length (part i n o) ≡ n
-unfolding part
-part-length o i n h = simp (length-take, length-drop) (omega arith)
-
 module _ (o : List ℕ) where
   abbrev Read : Suboption → ℕ → ℕ → Type 0
   Read x i j = (drop i o ≡ encode (contentOf o x) ++ drop j o) × MayStand (contentOf o x) (drop j o)
@@ -71,7 +68,7 @@ module _ (o : List ℕ) where
           let b : suc i < length o = omega arith in
           let one : suc i ≡ i + 1 = omega arith in
           let two : suc (suc i) ≡ i + 2 = omega arith in
-          let w : length (take n (drop (i + 2) o)) ≡ n = part-length o (i + 2) n fits in
+          let w : length (take n (drop (i + 2) o)) ≡ n = length-part (i + 2) n o fits in
           let count : getD o i 0 ≡ length (take n (drop (i + 2) o)) + 0x7f = omega arith in
           rw (ex, ej) (
             drop-cons o i 0 a

@@ -1,0 +1,3 @@
+-- How the code of offer and answer comes to its answers.
+pub mod Steps
+pub mod Choosing

@@ -1,0 +1,229 @@
+// Store, forget and count: the records that a door holds.
+use door::Change;
+use door::EACH;
+use door::Refusal;
+use door::Reply;
+use door::View;
+use eno::InHand;
+use eno::SessionRecord;
+use eno::Tep;
+ghost use mathlib.Core.Path.{_≡_};
+ghost use mathlib.Core.List.{[]};
+ghost use lib.ListN.{length};
+ghost use Rattle.eno.specs.Session.{inHand};
+ghost use Rattle.door.specs.Record.{firstThat, isSession};
+ghost use Rattle.door.specs.Door.{seenOf, noSession};
+ghost use Rattle.door.specs.Outcome.{keep};
+ghost use Rattle.door.specs.Records.{isInHand, isRecord};
+ghost use Rattle.door.specs.Records as records;
+ghost use Rattle.door.specs.Answers.{replyOf, effectOf, outcomeAs};
+ghost use Rattle.records.specs.Answers.{refusedStore, StoresAs};
+ghost use Rattle.records.specs.Steps.{isNamed, Counts};
+
+// What store does; `added` is the record that is added, else zeros.
+pub struct Stored {
+    pub change: Change,
+    pub added: SessionRecord,
+    pub reply: Reply,
+}
+
+// What forget does.
+pub struct Forgotten {
+    pub change: Change,
+    pub reply: Reply,
+}
+
+fn wide(x: u8) -> usize
+    ensures { λ r. ⌜ r ≡ x ⌝ }
+{
+    x as usize
+}
+
+// How many records a view has: at most EACH, whatever its count says.
+fn held_count(view: View) -> usize
+    ensures { λ r. ⌜ Counts view r ⌝ }
+{
+    let n = wide(view.count);
+    if EACH < n {
+        return EACH;
+    }
+    n
+}
+
+// Whether a record has this TEP and this identifier.
+fn is_session(session: SessionRecord, tep: u8, identifier: &[u8]) -> bool
+    ensures { λ r. ⌜ r ≡ isSession tep (now (identifier .entry)) session ⌝ }
+{
+    if session.tep != tep {
+        return false;
+    }
+    let other = session.identifier;
+    wire::same(&other, identifier)
+}
+
+// Which of the records held, oldest first, has this TEP and this identifier; how many are held where none has.
+fn first_session(view: View, tep: u8, identifier: &[u8]) -> usize
+    ensures { λ r. ⌜ r ≡ firstThat (isSession tep (now (identifier .entry))) (seenOf view .held) ⌝ }
+{
+    let n = held_count(view);
+    let mut i = 0;
+    while i < n {
+        let session = view.held[i];
+        if is_session(session, tep, identifier) {
+            return i;
+        }
+        i += 1;
+    }
+    n
+}
+
+// Whether the record in hand, if there is one, has this TEP and this identifier.
+fn is_in_hand(hand: InHand, tep: u8, identifier: &[u8]) -> bool
+    ensures { λ r. ⌜ r ≡ isInHand tep (now (identifier .entry)) (inHand hand) ⌝ }
+{
+    if !hand.held {
+        return false;
+    }
+    let session = hand.session;
+    is_session(session, tep, identifier)
+}
+
+// Whether a session may have this TEP and this identifier.
+fn is_named(tep: u8, identifier: &[u8]) -> bool
+    ensures { λ r. ⌜ r ≡ isNamed tep (now (identifier .entry)) ⌝ }
+{
+    let named = Tep::of(tep);
+    if !named.known {
+        return false;
+    }
+    identifier.len() == 18
+}
+
+// Whether these are the parts of a record.
+fn is_record(tep: u8, role: u8, identifier: &[u8], secret: &[u8]) -> bool
+    ensures { λ r. ⌜ r ≡ isRecord tep role (now (identifier .entry)) (now (secret .entry)) ⌝ }
+{
+    if !is_named(tep, identifier) {
+        return false;
+    }
+    if 1 < role {
+        return false;
+    }
+    secret.len() == 32
+}
+
+// An identifier as an array.
+fn identifier_of(s: &[u8]) -> [u8; 18]
+    requires { ⌜ length (now s) ≡ 18 ⌝ }
+    ensures { λ r. ⌜ r ≡ now (s .entry) ⌝ }
+{
+    let mut bytes = [0u8; 18];
+    wire::copy(&mut bytes, 0, s);
+    bytes
+}
+
+// A secret as an array.
+fn secret_of(s: &[u8]) -> [u8; 32]
+    requires { ⌜ length (now s) ≡ 32 ⌝ }
+    ensures { λ r. ⌜ r ≡ now (s .entry) ⌝ }
+{
+    let mut bytes = [0u8; 32];
+    wire::copy(&mut bytes, 0, s);
+    bytes
+}
+
+// Zeros.
+fn no_session() -> SessionRecord
+    ensures { λ r. ⌜ r ≡ noSession ⌝ }
+{
+    let identifier = [0u8; 18];
+    let secret = [0u8; 32];
+    SessionRecord {
+        tep: 0,
+        role: 0,
+        identifier,
+        secret,
+    }
+}
+
+// A store that is refused.
+fn refused(why: Refusal) -> Stored
+    ensures { λ r. ⌜ r ≡ refusedStore why ⌝ }
+{
+    let zeros = no_session();
+    Stored {
+        change: Change::Keep,
+        added: zeros,
+        reply: Reply::Refused(why),
+    }
+}
+
+// Adds a record to the door; `free`: whether the unit has a row for it.
+pub fn store(view: View, free: bool, tep: u8, role: u8, identifier: &[u8], secret: &[u8]) -> Stored
+    ensures { λ r. ⌜ StoresAs r (view .door) (records.store free (seenOf view) tep role (now (identifier .entry)) (now (secret .entry))) ⌝ }
+{
+    if !is_record(tep, role, identifier, secret) {
+        return refused(Refusal::Unfit);
+    }
+    let n = held_count(view);
+    if EACH <= n {
+        return refused(Refusal::Full);
+    }
+    if !free {
+        return refused(Refusal::Full);
+    }
+    let first = first_session(view, tep, identifier);
+    if first < n {
+        return refused(Refusal::AlreadyHeld);
+    }
+    let door = view.door;
+    let hand = door.hand;
+    if is_in_hand(hand, tep, identifier) {
+        return refused(Refusal::AlreadyHeld);
+    }
+    let name = identifier_of(identifier);
+    let key = secret_of(secret);
+    let added = SessionRecord {
+        tep,
+        role,
+        identifier: name,
+        secret: key,
+    };
+    Stored {
+        change: Change::Add,
+        added,
+        reply: Reply::Done,
+    }
+}
+
+// Removes the record with this TEP and this identifier from the door.
+pub fn forget(view: View, tep: u8, identifier: &[u8]) -> Forgotten
+    ensures { λ r. ⌜ outcomeAs (replyOf (r .reply) []) [] (view .door) (effectOf (r .change) noSession) ≡ records.forget (seenOf view) tep (now (identifier .entry)) ⌝ }
+{
+    if !is_named(tep, identifier) {
+        return Forgotten {
+            change: Change::Keep,
+            reply: Reply::Refused(Refusal::Unfit),
+        };
+    }
+    let n = held_count(view);
+    let place = first_session(view, tep, identifier);
+    if n <= place {
+        return Forgotten {
+            change: Change::Keep,
+            reply: Reply::Refused(Refusal::NotHeld),
+        };
+    }
+    Forgotten {
+        change: Change::Remove(place),
+        reply: Reply::Done,
+    }
+}
+
+// How many records the door holds.
+pub fn count(view: View) -> Reply
+    ensures { λ r. ⌜ outcomeAs (replyOf r []) [] (view .door) keep ≡ records.count (seenOf view) ⌝ }
+{
+    let n = held_count(view);
+    Reply::Holds(n)
+}

@@ -1,0 +1,2 @@
+-- How the code says what it does with a segment.
+pub mod Steps

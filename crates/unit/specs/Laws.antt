@@ -1,0 +1,4 @@
+-- Laws of lists, of the pool and of the calls, for the theorems.
+pub mod Lists
+pub mod Pool
+pub mod Calls

@@ -1,0 +1,9 @@
+-- The unit: doors and pool, the calls, and the theorems over lists of calls.
+pub mod Numbers
+pub mod Unit
+pub mod Run
+pub mod Laws
+pub mod Invariant
+pub mod Isolation
+pub mod Refusals
+pub mod Resumption
