@@ -11,7 +11,6 @@ use lib.Seq.{getD-set-same, getD-set-other, take-suc-set, length-take-le}
 use Rattle.eno.specs.declared.SessionRecord.{SessionRecord}
 use Rattle.door.specs.Numbers.{eachN}
 use Rattle.door.specs.Door.{Seen, noSession}
-use Rattle.door.specs.Record.{pastEnd}
 use Rattle.door.specs.Outcome.{Effect, keep, add, remove}
 use Rattle.door.specs.Calls.{cut, effected}
 use Rattle.door.specs.declared.Door.{Door}
@@ -134,7 +133,7 @@ module _ (owners : List ℕ) (d : ℕ) (x : Position) (f : Sound owners d x) whe
         ap (λ (is : List ℕ). recordsAt (set rows (firstFree owners) r) is) add-mine
         ∙ (records-snoc (set rows (firstFree owners) r) (firstFree owners) (mine x)
         ∙ ap₂ (λ (hs : List SessionRecord) (z : SessionRecord). hs ++ z ∷ []) (records-set rows (firstFree owners) r (mine x) fresh-row)
-        (getD-set-same rows (firstFree owners) r pastEnd (omega arith)))
+        (getD-set-same rows (firstFree owners) r noSession (omega arith)))
 
   -- the door that loses its j-th oldest
   module _ (rows : List SessionRecord) (j : ℕ) (lt : j < countOf x) where

@@ -55,7 +55,7 @@ mine x = take (countOf x) (x .rows)
 
 -- the records of rows; a row number past the last reads as the empty record
 unfoldable pub recordsAt : List SessionRecord → List ℕ → List SessionRecord
-recordsAt rows is = map (λ i. getD rows i pastEnd) is
+recordsAt rows is = map (λ i. getD rows i noSession) is
 
 -- what door d sees
 abbrev pub view : LinkUnit → ℕ → Seen

@@ -7,7 +7,7 @@ use native.Mathlib.Omega.{arith}
 use lib.ListN.{length, getD, take, set, length-set}
 use lib.Seq.{getD-set-other}
 use Rattle.eno.specs.declared.SessionRecord.{SessionRecord}
-use Rattle.door.specs.Record.{pastEnd}
+use Rattle.door.specs.Door.{noSession}
 use Rattle.door.specs.Calls.{cut}
 use Rattle.unit.specs.Unit.{recordsAt, orNext, firstFree, countOf, pastPosition}
 use Rattle.unit.specs.Laws.Lists.{NotIn, not-in-cut, not-in-snoc, map-cut, map-snoc}
@@ -32,15 +32,15 @@ pub records-set : (rows : List SessionRecord) (k : ℕ) (x : SessionRecord) (is 
 unfolding recordsAt
 records-set rows k x [] n = refl
 records-set rows k x (i ∷ is) n =
-    ap₂ (λ (a : SessionRecord) (b : List SessionRecord). a ∷ b) (getD-set-other rows k i x pastEnd (λ e. n .0 (sym e))) (records-set rows k x is (n .1))
+    ap₂ (λ (a : SessionRecord) (b : List SessionRecord). a ∷ b) (getD-set-other rows k i x noSession (λ e. n .0 (sym e))) (records-set rows k x is (n .1))
 
-pub records-snoc : (rows : List SessionRecord) (k : ℕ) (is : List ℕ) → recordsAt rows (is ++ k ∷ []) ≡ recordsAt rows is ++ getD rows k pastEnd ∷ []
+pub records-snoc : (rows : List SessionRecord) (k : ℕ) (is : List ℕ) → recordsAt rows (is ++ k ∷ []) ≡ recordsAt rows is ++ getD rows k noSession ∷ []
 unfolding recordsAt
-records-snoc rows k is = map-snoc (λ (i : ℕ). getD rows i pastEnd) is k
+records-snoc rows k is = map-snoc (λ (i : ℕ). getD rows i noSession) is k
 
 pub records-cut : (rows : List SessionRecord) (j : ℕ) (is : List ℕ) → recordsAt rows (cut j is) ≡ cut j (recordsAt rows is)
 unfolding recordsAt
-records-cut rows j is = map-cut (λ (i : ℕ). getD rows i pastEnd) j is
+records-cut rows j is = map-cut (λ (i : ℕ). getD rows i noSession) j is
 
 -- one row more
 pub own-snoc : (owners : List ℕ) (d k : ℕ) (is : List ℕ) → k < length owners → getD owners k 0 ≡ suc d → NotIn k is → Own owners d is → Own owners d (is ++ k ∷ [])
