@@ -1,5 +1,6 @@
 -- A door's phases and what its stored data say. Odd values are read as stated here; from an empty unit on none arises.
-use Prim.Native.Nat.{ℕ, zero, suc, _-_, min}
+use Prim.Native.Nat.{ℕ, zero, suc, _-_, _≤_, min}
+use mathlib.Core.Path.{_≡_}
 use mathlib.Core.List.{List, [], _∷_, _++_}
 use mathlib.Core.Bool.{Bool, true, false, cond}
 use mathlib.Core.Option.{Option, none, some}
@@ -92,3 +93,9 @@ pub record Seen : Type 0 where
 -- the records of a view; a count above the most reads as the most
 unfoldable pub seenOf : View → Seen
 seenOf v = record { door = v .door; held = take (min (v .count) eachN) (v .held) }
+
+-- n is the number of records seen, and the view's array has a place for each
+pub record Counts (v : View) (n : ℕ) : Type 0 where
+  pub seen : n ≡ length (seenOf v .held)
+  pub few : n ≤ eachN
+  pub places : length (v .held) ≡ eachN

@@ -5,12 +5,11 @@ use mathlib.Core.List.{List, [], _∷_, _++_}
 use mathlib.Core.Bool.{Bool, true, false, cond, not, _&&_, _||_}
 use mathlib.Core.Option.{Option, none, some}
 use native.Mathlib.Omega.{arith}
-use borrow.Author.Tests.{eq-eqb, ne-eqb, lt-ltb, le-ltb, le-leb, lt-leb}
-use lib.Dec.{eqb, ltb, leb}
+use borrow.Author.Tests.{eq-eqb, ne-eqb, le-leb, lt-leb}
+use lib.Dec.{eqb, leb}
 use lib.ListN.{length, getD, take, drop, length-take, length-drop, List·getD-eq-default}
 use Rattle.wire.specs.Bytes.{part, sameBytes, standsAt}
 use Rattle.eno.specs.Area.{Finding, refused, unreadable, missing, found, Status, saysFound, saysNone, saysUnreadable, saysRefused, status, finding}
-use Rattle.eno.specs.Suboption.{Sent}
 use Rattle.eno.specs.Session.{inHand}
 use Rattle.eno.specs.Judge.{isFresh, isBad, Way, fresh, resumed, ofA, ofB}
 use Rattle.eno.specs.declared.SessionRecord.{SessionRecord}
@@ -18,8 +17,9 @@ use Rattle.eno.specs.declared.InHand.{InHand}
 use Rattle.finder.specs.Answers.{statusOf}
 use Rattle.finder.specs.declared.FindStatus.{FindStatus}
 use Rattle.finder.specs.declared.FindStatus.the-variants as says
+use Rattle.suboptions.specs.Summary.{asSent}
 use Rattle.suboptions.specs.declared.Entry.{Entry}
-use Rattle.judge.specs.Quick.{asSent, startsB, matchesAt, wayOfEntries, wayAs, laterOf, betterOf, foundAt, byteBefore, rankOf, notFound}
+use Rattle.judge.specs.Quick.{startsB, matchesAt, wayOfEntries, wayAs, laterOf, betterOf, foundAt, byteBefore, rankOf, notFound}
 use Rattle.judge.specs.declared.Validity.{Validity}
 use Rattle.judge.specs.Answers.{withoutTranscript}
 use Rattle.judge.specs.declared.Reason.the-variants as reason
@@ -43,25 +43,6 @@ module _ {X : Type 0} (b : Bool) (own peer : X) where
   pub a-own : b ≡ false → own ≡ ofA b own peer
   unfolding ofA
   a-own e = rw e
-
--- the data of a TEP
-module _ (x : Sent) where
-  pub fresh-bare : x .byte < 0x80 → true ≡ isFresh x
-  unfolding isFresh
-  fresh-bare h = simp (lt-ltb _ _ h)
-
-  pub fresh-short : 0x80 ≤ x .byte → ltb (x .len) 9 ≡ isFresh x
-  unfolding isFresh
-  fresh-short h = simp (le-ltb _ _ h)
-
-  module _ (b : Bool) (e : b ≡ isFresh x) where
-    pub bad-fresh : b ≡ true → false ≡ isBad x
-    unfolding isBad
-    bad-fresh t = simp (← e, t)
-
-    pub bad-long : b ≡ false → leb 18 (x .len) ≡ isBad x
-    unfolding isBad
-    bad-long t = simp (← e, t)
 
 -- where B's half begins
 module _ (b : Bool) (role : ℕ) where

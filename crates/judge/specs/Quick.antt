@@ -7,12 +7,11 @@ use lib.Dec.{ltb, leb, eqb}
 use lib.ListN.{length, getD}
 use Rattle.wire.specs.Bytes.{part, sameBytes}
 use Rattle.eno.specs.Area.{Finding, refused, unreadable, missing, found, finding}
-use Rattle.eno.specs.Suboption.{Sent}
 use Rattle.eno.specs.Judge.{isFresh, isBad, Way, fresh, resumed, isResumed, ofA, ofB}
 use Rattle.eno.specs.declared.SessionRecord.{SessionRecord}
 use Rattle.suboptions.specs.declared.Entry.{Entry}
 use Rattle.suboptions.specs.declared.Summary.{Summary}
-use Rattle.suboptions.specs.Summary.{never}
+use Rattle.suboptions.specs.Summary.{never, asSent}
 use Rattle.judge.specs.Answers.{padded, withoutTranscript}
 use Rattle.judge.specs.declared.Validity.{Validity}
 use Rattle.judge.specs.declared.Validity.the-variants as validity
@@ -20,10 +19,6 @@ use Rattle.judge.specs.declared.Best.{Best}
 use Rattle.judge.specs.declared.Reason.the-variants as reason
 use Rattle.judge.specs.declared.Verdict.the-variants as verdict
 use Rattle.judge.specs.declared.Judgement.{Judgement}
-
--- a TEP that was sent, by its entry
-abbrev pub asSent : Entry → Sent
-asSent e = record { counted = false; byte = e .byte; start = e .start; len = e .len }
 
 -- where the half that B sends begins in the identifier
 unfoldable pub startsB : Bool → ℕ → ℕ

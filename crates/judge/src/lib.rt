@@ -10,9 +10,9 @@ ghost use lib.ListN.{length};
 ghost use Rattle.wire.specs.Bytes.{sameBytes, part};
 ghost use Rattle.eno.specs.Session.{inHand};
 ghost use Rattle.eno.specs.Area.{finding};
-ghost use Rattle.eno.specs.Judge.{isFresh, isBad, ofA, ofB, judge};
+ghost use Rattle.eno.specs.Judge.{ofA, ofB, judge};
 ghost use Rattle.judge.specs.Answers.{withoutTranscript, Judges};
-ghost use Rattle.judge.specs.Quick.{asSent, startsB, matchesAt, wayAs, wayOfEntries, laterOf, betterOf, bestOf, byteBefore, concluded, rankOf, notFound, negotiated};
+ghost use Rattle.judge.specs.Quick.{startsB, matchesAt, wayAs, wayOfEntries, laterOf, betterOf, bestOf, byteBefore, concluded, rankOf, notFound, negotiated};
 
 // Why a connection is plain TCP.
 pub enum Reason {
@@ -62,24 +62,6 @@ fn of_a(own_is_b: bool, own: Entry, peer: Entry) -> Entry
     ensures { λ r. ⌜ r ≡ ofA «own_is_b» own peer ⌝ }
 {
     if own_is_b { peer } else { own }
-}
-
-fn is_fresh(e: Entry) -> bool
-    ensures { λ r. ⌜ r ≡ isFresh (asSent e) ⌝ }
-{
-    if e.byte < 0x80 {
-        return true;
-    }
-    e.len < 9
-}
-
-fn is_bad(e: Entry) -> bool
-    ensures { λ r. ⌜ r ≡ isBad (asSent e) ⌝ }
-{
-    if is_fresh(e) {
-        return false;
-    }
-    18 <= e.len
 }
 
 // Whether the half of an identifier that begins at `from` stands in an option at `at`.
@@ -159,16 +141,16 @@ fn way_of<'a>(
     if of_b.times != 1 {
         return Validity::Invalid;
     }
-    if is_bad(of_a) {
+    if suboptions::is_bad(of_a) {
         return Validity::Invalid;
     }
-    if is_bad(of_b) {
+    if suboptions::is_bad(of_b) {
         return Validity::Invalid;
     }
-    if is_fresh(of_b) {
+    if suboptions::is_fresh(of_b) {
         return Validity::Fresh;
     }
-    if is_fresh(of_a) {
+    if suboptions::is_fresh(of_a) {
         return Validity::Invalid;
     }
     if matches(a, b, hand, own_is_b, t, of_a.start, of_b.start) {

@@ -17,12 +17,12 @@ use Rattle.eno.specs.Option.{isTepList}
 use Rattle.eno.specs.Laws.Walk.{Every}
 use Rattle.eno.specs.Laws.Asked.{IsTep}
 use Rattle.eno.specs.declared.SessionRecord.{SessionRecord}
-use Rattle.suboptions.specs.Summary.{never, entryFrom, entriesOf}
+use Rattle.suboptions.specs.Summary.{never, entryFrom, entriesOf, asSent}
 use Rattle.suboptions.specs.Laws.{entry-of, entry-times, entry-once}
 use Rattle.suboptions.specs.declared.Entry.{Entry}
 use Rattle.door.specs.Record.{firstThat}
 use Rattle.door.specs.Answer.{candidate, isCandidate, fittingAt, lastThat, Choice, orFresh, chooseTep, Answering, plainFor, with, chosenOr}
-use Rattle.opening.specs.Choosing.{chosen, asSent, entryOf, candidateBy, expects, fittingBy, resumableBy, isCandidateBy, resumedBy, lastResumed, freshBy, lastFresh, firstOr, chosenBy}
+use Rattle.opening.specs.Choosing.{chosen, entryOf, candidateBy, expects, fittingBy, resumableBy, isCandidateBy, resumedBy, lastResumed, freshBy, lastFresh, firstOr, chosenBy}
 use Rattle.opening.proofs.Entries.{entry-there}
 use Rattle.opening.proofs.Listing.{last-same, last-is}
 

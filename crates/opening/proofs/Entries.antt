@@ -1,24 +1,23 @@
--- Laws of the entry of a TEP: fresh, bad, a candidate, and the record that expects its half.
+-- Laws of the entry of a TEP: a candidate, and the record that expects its half.
 use Prim.Native.Nat.{ℕ, zero, suc, _+_, _-_, _≤_, _<_}
 use mathlib.Core.Path.{_≡_, refl, sym, _∙_, ap, ap₂}
 use mathlib.Core.List.{List, [], _∷_}
 use mathlib.Core.Bool.{Bool, true, false, cond, not, _&&_, _||_}
 use native.Mathlib.Omega.{arith}
 use native.Mathlib.Decide.{ℕ-discrete}
-use borrow.Author.Tests.{eq-eqb, ne-eqb, lt-ltb, le-ltb}
-use lib.Dec.{eqb, ltb, leb}
+use borrow.Author.Tests.{eq-eqb, ne-eqb}
+use lib.Dec.{eqb}
 use lib.ListN.{length, getD, take, drop, length-take, length-drop}
 use Rattle.wire.specs.Bytes.{part, sameBytes, standsAt}
 use Rattle.eno.specs.Tep.{isKnown}
 use Rattle.eno.specs.Session.{expectedHalf}
-use Rattle.eno.specs.Suboption.{Sent}
 use Rattle.eno.specs.Judge.{isFresh, isBad}
 use Rattle.eno.specs.Laws.Tep.{known-yes, known-below, known-above}
 use Rattle.eno.specs.declared.SessionRecord.{SessionRecord}
-use Rattle.suboptions.specs.Summary.{never}
+use Rattle.suboptions.specs.Summary.{never, asSent}
 use Rattle.suboptions.specs.declared.Entry.{Entry}
 use Rattle.door.specs.Record.{firstThat}
-use Rattle.opening.specs.Choosing.{asSent, entryOf, candidateBy, expects, fittingBy}
+use Rattle.opening.specs.Choosing.{entryOf, candidateBy, expects, fittingBy}
 
 -- the entry of a TEP
 module _ (es : List Entry) (t : ℕ) where
@@ -33,25 +32,6 @@ module _ (es : List Entry) (t : ℕ) where
   pub entry-there : 0x21 ≤ t → t ≤ 0x24 → getD es (t - 0x21) never ≡ entryOf es t
   unfolding entryOf
   entry-there low high = simp (sym (known-yes t low high))
-
--- the data of a TEP
-module _ (x : Sent) where
-  pub fresh-bare : x .byte < 0x80 → true ≡ isFresh x
-  unfolding isFresh
-  fresh-bare h = simp (lt-ltb _ _ h)
-
-  pub fresh-short : 0x80 ≤ x .byte → ltb (x .len) 9 ≡ isFresh x
-  unfolding isFresh
-  fresh-short h = simp (le-ltb _ _ h)
-
-  module _ (b : Bool) (e : b ≡ isFresh x) where
-    pub bad-fresh : b ≡ true → false ≡ isBad x
-    unfolding isBad
-    bad-fresh t = simp (← e, t)
-
-    pub bad-long : b ≡ false → leb 18 (x .len) ≡ isBad x
-    unfolding isBad
-    bad-long t = simp (← e, t)
 
 module _ (e : Entry) where
   pub candidate-not : (e .times ≡ 1 → ⊥) → false ≡ candidateBy e

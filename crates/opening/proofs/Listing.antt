@@ -1,34 +1,14 @@
--- Laws of TEP lists: whether one is listed, and which is the last that passes a test.
-use Prim.Native.Nat.{ℕ, zero, suc, _+_, _≤_, _<_}
-use mathlib.Core.Path.{_≡_, refl, sym, _∙_, ap, ap₂}
+-- Laws of TEP lists: which is the last that passes a test.
+use Prim.Native.Nat.{ℕ, suc, _≤_}
+use mathlib.Core.Path.{_≡_, refl, _∙_, ap, ap₂}
 use mathlib.Core.List.{List, [], _∷_, _++_}
-use mathlib.Core.Bool.{Bool, true, false, cond, false≢true}
+use mathlib.Core.Bool.{Bool, true, false, cond}
 use mathlib.Core.Option.{Option, none, some}
-use native.Mathlib.Numerals.{add-one}
 use native.Mathlib.Omega.{arith}
-use borrow.Author.Tests.{eq-eqb, ne-eqb}
-use lib.ListN.{length, getD, take, drop, drop-of-length-le}
-use lib.Seq.{take-suc, drop-cons}
-use Rattle.eno.specs.Option.{isListed}
+use lib.ListN.{length, getD, take}
+use lib.Seq.{take-suc}
 use Rattle.eno.specs.Laws.Walk.{Every}
 use Rattle.door.specs.Answer.{lastThat}
-
--- a search for t that passed i elements
-module _ (t : ℕ) (l : List ℕ) (i : ℕ) (passed : isListed t l ≡ isListed t (drop i l)) where
-  cut : i < length l → drop i l ≡ getD l i 0 ∷ drop (i + 1) l
-  cut h = rw (add-one, drop-cons l i 0)
-
-  pub listed-here : i < length l → getD l i 0 ≡ t → true ≡ isListed t l
-  unfolding isListed
-  listed-here h e = sym (passed ∙ (rw (cut h, eq-eqb _ _ e)))
-
-  pub listed-later : i < length l → (getD l i 0 ≡ t → ⊥) → isListed t l ≡ isListed t (drop (i + 1) l)
-  unfolding isListed
-  listed-later h e = passed ∙ (rw (cut h, ne-eqb _ _ e))
-
-  pub listed-nowhere : length l ≤ i → false ≡ isListed t l
-  unfolding isListed
-  listed-nowhere h = sym (passed ∙ ap (isListed t) (drop-of-length-le l {i = i} h))
 
 -- the last of a list with one more
 last-snoc : (test : ℕ → Bool) (l : List ℕ) (x : ℕ) → lastThat test (l ++ (x ∷ [])) ≡ cond (test x) (some x) (lastThat test l)

@@ -13,14 +13,16 @@ use Rattle.eno.specs.Area.{synOption}
 use Rattle.eno.specs.Option.{isTepList, offered, answered, optionWith, offerFits, answerFits}
 use Rattle.eno.specs.Laws.Asked.{MayBeAsked}
 use Rattle.eno.specs.declared.SessionRecord.{SessionRecord}
-use Rattle.door.specs.Door.{Seen, phaseOf}
+use Rattle.door.specs.Door.{Seen, phaseOf, noSession}
 use Rattle.door.specs.Record.{recordAt}
 use Rattle.door.specs.Outcome.{Outcome, Effect, refused, written, plain, keep, remove, refusal, unless}
 use Rattle.door.specs.Offer.{isIdle, termsFit, offeredAt, offeredDoor, offer}
 use Rattle.door.specs.Answer.{Choice, Answering, plainFor, with, answering, chooseTep, answerReason, reasonOr, chosenOr, plainDoor, answeredDoor, answerWith, answerLength, answer}
-use Rattle.door.specs.Answers.{outcomeAs}
+use Rattle.door.specs.Answers.{refusalNumber, replyOf, effectOf, outcomeAs}
 use Rattle.door.specs.declared.Door.{Door}
-use Rattle.opening.specs.Steps.{taking, proposed, responded}
+use Rattle.door.specs.declared.Refusal.{Refusal}
+use Rattle.opening.specs.Steps.{refusedOpening, taking, proposed, responded}
+use Rattle.opening.specs.declared.Opening.{Opening}
 use Rattle.opening.specs.Choosing.{chosen}
 use Rattle.opening.proofs.Writing.{Wrote}
 use Rattle.opening.proofs.Terms.{tep-list, terms-list, terms-nonce}
@@ -29,6 +31,12 @@ use Rattle.opening.proofs.Taken.{chosen-fits}
 -- an outcome by its parts
 outcome-is : (k l : ℕ) (s t : List ℕ) (d e : Door) (f g : Effect) → k ≡ l → s ≡ t → d ≡ e → f ≡ g → outcomeAs (written k) s d f ≡ outcomeAs (written l) t e g
 outcome-is k l s t d e f g p q r u = λ i. outcomeAs (written (p i)) (q i) (r i) (u i)
+
+-- a refusal
+pub refuses : (r : Opening) (d : Door) (why : Refusal) (s : List ℕ) (o : Outcome) → r ≡ refusedOpening d why → outcomeAs (refused (refusalNumber why)) s d keep ≡ o
+    → outcomeAs (replyOf (r .reply) []) s (r .door) (effectOf (r .change) noSession) ≡ o
+unfolding refusedOpening
+refuses r d why s o e q = ap (λ (x : Opening). outcomeAs (replyOf (x .reply) []) s (x .door) (effectOf (x .change) noSession)) e ∙ q
 
 -- an offer whose arguments fit
 module _ (v : Seen) (b : ℕ) (aware mandatory : Bool) (list : List ℕ) (j : ℕ) (nonce s : List ℕ) where

@@ -21,7 +21,7 @@ use Rattle.eno.specs.declared.SessionRecord.{SessionRecord}
 use Rattle.door.specs.Record.{firstThat, recordAt, pastEnd}
 use Rattle.door.specs.Offer.{offeredAt}
 use Rattle.door.specs.Answer.{candidate, isCandidate, fittingAt, lastThat, Choice, orFresh, chooseTep}
-use Rattle.opening.proofs.Held.{first-passes}
+use Rattle.door.specs.Laws.Choice.{first-passes}
 use Rattle.opening.proofs.Listing.{last-is}
 
 -- the record at j of those held, if there is one

@@ -1,7 +1,7 @@
 -- How the code chooses the TEP of an answer: by the entries of the summary of A's option.
 use Prim.Native.Nat.{ℕ, _-_}
 use mathlib.Core.List.{List}
-use mathlib.Core.Bool.{Bool, false, cond, not, _&&_}
+use mathlib.Core.Bool.{Bool, cond, not, _&&_}
 use mathlib.Core.Option.{Option, none, some}
 use lib.Dec.{ltb, eqb}
 use lib.ListN.{length, getD}
@@ -9,10 +9,9 @@ use Rattle.wire.specs.Bytes.{part, sameBytes}
 use Rattle.eno.specs.Area.{Finding, refused, unreadable, missing, found}
 use Rattle.eno.specs.Tep.{isKnown}
 use Rattle.eno.specs.Session.{expectedHalf}
-use Rattle.eno.specs.Suboption.{Sent}
 use Rattle.eno.specs.Judge.{isFresh, isBad}
 use Rattle.eno.specs.declared.SessionRecord.{SessionRecord}
-use Rattle.suboptions.specs.Summary.{never}
+use Rattle.suboptions.specs.Summary.{never, asSent}
 use Rattle.suboptions.specs.declared.Entry.{Entry}
 use Rattle.door.specs.Record.{firstThat}
 use Rattle.door.specs.Answer.{lastThat, Choice, Answering, plainFor, with}
@@ -27,10 +26,6 @@ chosen t j = record { tep = t; at = j }
 abbrev pub decisionOf : Decision → Answering
 decisionOf (decision.Plain n) = plainFor n
 decisionOf (decision.With t j) = with (chosen t j)
-
--- a TEP that was sent, by its entry
-abbrev pub asSent : Entry → Sent
-asSent e = record { counted = false; byte = e .byte; start = e .start; len = e .len }
 
 -- the entry of the TEP t; never sent where the unit does not know it
 unfoldable pub entryOf : List Entry → ℕ → Entry

@@ -1,6 +1,5 @@
 -- What the steps of offer and answer tell.
-use Prim.Native.Nat.{ℕ, _+_, _≤_}
-use mathlib.Core.Path.{_≡_}
+use Prim.Native.Nat.{ℕ, _+_}
 use mathlib.Core.List.{List, [], _∷_}
 use mathlib.Core.Bool.{Bool, true, false, cond}
 use lib.Dec.{ltb}
@@ -9,20 +8,20 @@ use Rattle.wire.specs.Bytes.{pasted}
 use Rattle.eno.specs.Option.{isListed, offered, optionWith}
 use Rattle.eno.specs.declared.SessionRecord.{SessionRecord}
 use Rattle.eno.specs.declared.InHand.{InHand}
-use Rattle.door.specs.Numbers.{eachN}
-use Rattle.door.specs.Door.{Seen, seenOf, kept}
+use Rattle.door.specs.Door.{Seen, kept}
 use Rattle.door.specs.Record.{recordAt}
 use Rattle.door.specs.Outcome.{Outcome, Effect, written, keep, remove, refusal, unless}
 use Rattle.door.specs.Offer.{offeredDoor}
 use Rattle.door.specs.Answer.{Answering, answerLength, answerWith}
 use Rattle.door.specs.declared.Door.{Door}
-use Rattle.door.specs.declared.View.{View}
+use Rattle.door.specs.declared.Refusal.{Refusal}
+use Rattle.door.specs.declared.Change.the-variants as change
+use Rattle.door.specs.declared.Reply.the-variants as reply
+use Rattle.opening.specs.declared.Opening.{Opening}
 
--- n is the number of records seen, and each of them is an element of the view's array
-pub record Counts (v : View) (n : ℕ) : Type 0 where
-  pub seen : n ≡ length (seenOf v .held)
-  pub few : n ≤ eachN
-  pub all : length (v .held) ≡ eachN
+-- a refusal leaves the door and its records as they are
+unfoldable pub refusedOpening : Door → Refusal → Opening
+refusedOpening d why = record { door = d; change = change.Keep; reply = reply.Refused why }
 
 -- a record of a listed TEP
 unfoldable pub isOfListed : List ℕ → SessionRecord → Bool

@@ -1,7 +1,6 @@
 // Offer and answer: the option that a door sends first, and the record that it takes in hand. Total for every view and every argument.
 use door::Change;
 use door::Door;
-use door::EACH;
 use door::Refusal;
 use door::Reply;
 use door::View;
@@ -18,15 +17,14 @@ ghost use lib.ListN.{length};
 ghost use lib.Dec.{ltb};
 ghost use Rattle.eno.specs.Area.{finding, synOption};
 ghost use Rattle.eno.specs.Session.{inHand};
-ghost use Rattle.eno.specs.Judge.{isFresh, isBad};
-ghost use Rattle.eno.specs.Option.{isListed, isTepList, offerFits, answerFits};
-ghost use Rattle.door.specs.Door.{seenOf, phaseOf, handOf, emptyHand, noSession, kept};
+ghost use Rattle.eno.specs.Option.{isTepList, offerFits, answerFits};
+ghost use Rattle.door.specs.Door.{seenOf, phaseOf, handOf, noSession, kept};
 ghost use Rattle.door.specs.Record.{firstThat, recordAt};
 ghost use Rattle.door.specs.Offer.{isIdle, termsFit, offeredAt, offer};
-ghost use Rattle.door.specs.Answer.{answering, plainDoor, with, answer};
+ghost use Rattle.door.specs.Answer.{answering, with, answer};
 ghost use Rattle.door.specs.Answers.{replyOf, effectOf, outcomeAs};
-ghost use Rattle.opening.specs.Steps.{Counts, isOfListed, taking, doorOffered, tepByte, doorAnswered, proposed, responded};
-ghost use Rattle.opening.specs.Choosing.{decisionOf, chosen, asSent, entryOf, candidateBy, expects, fittingBy, lastResumed, lastFresh, chosenBy, missedAs};
+ghost use Rattle.opening.specs.Steps.{refusedOpening, isOfListed, taking, doorOffered, tepByte, doorAnswered, proposed, responded};
+ghost use Rattle.opening.specs.Choosing.{decisionOf, chosen, entryOf, candidateBy, expects, fittingBy, lastResumed, lastFresh, chosenBy, missedAs};
 
 // The door afterwards, what is done with its records, and the reply.
 pub struct Opening {
@@ -35,35 +33,16 @@ pub struct Opening {
     pub reply: Reply,
 }
 
-fn wide(x: u8) -> usize
-    ensures { λ r. ⌜ r ≡ x ⌝ }
+// A refusal leaves the door and its records as they are.
+fn refused(door: Door, why: Refusal) -> Opening
+    ensures { λ r. ⌜ r ≡ refusedOpening door why ⌝ }
 {
-    x as usize
-}
-
-// How many records a view has: at most EACH, whatever its count says.
-fn held_count(view: View) -> usize
-    ensures { λ r. ⌜ Counts view r ⌝ }
-{
-    let n = wide(view.count);
-    if EACH < n {
-        return EACH;
+    let change = Change::Keep;
+    Opening {
+        door,
+        change,
+        reply: Reply::Refused(why),
     }
-    n
-}
-
-// Whether t is one of a list.
-fn is_listed(t: u8, list: &[u8]) -> bool
-    ensures { λ r. ⌜ r ≡ isListed t (now (list .entry)) ⌝ }
-{
-    let mut i = 0;
-    while i < list.len() {
-        if list[i] == t {
-            return true;
-        }
-        i += 1;
-    }
-    false
 }
 
 // What offer and answer share of number 3.
@@ -91,26 +70,11 @@ fn is_idle(phase: u8) -> bool
     5 < phase
 }
 
-fn empty_hand() -> InHand
-    ensures { λ r. ⌜ r ≡ emptyHand ⌝ }
-{
-    let session = SessionRecord {
-        tep: 0,
-        role: 0,
-        identifier: [0u8; 18],
-        secret: [0u8; 32],
-    };
-    InHand {
-        held: false,
-        session,
-    }
-}
-
 // The j-th oldest record in hand, if there is one.
 fn hand_at(view: View, j: usize) -> InHand
     ensures { λ r. ⌜ r ≡ handOf (recordAt (seenOf view .held) j) ⌝ }
 {
-    let n = held_count(view);
+    let n = door::held_count(view);
     if j < n {
         let session = view.held[j];
         return InHand {
@@ -118,7 +82,7 @@ fn hand_at(view: View, j: usize) -> InHand
             session,
         };
     }
-    empty_hand()
+    door::empty_hand()
 }
 
 // A record that is taken leaves the pool.
@@ -139,25 +103,6 @@ fn kept_option(o: &[u8]) -> [u8; 40]
     let mut bytes = [0u8; 40];
     wire::copy(&mut bytes, 0, o);
     bytes
-}
-
-fn plain_door(reason: u8) -> Door
-    ensures { λ r. ⌜ r ≡ plainDoor reason ⌝ }
-{
-    let hand = empty_hand();
-    Door {
-        phase: 5,
-        mandatory: false,
-        reason,
-        role: 0,
-        tep: 0,
-        resumed: false,
-        own_length: 0,
-        peer_length: 0,
-        own: [0u8; 40],
-        peer: [0u8; 40],
-        hand,
-    }
 }
 
 // What an answer comes to: plain with its reason, or the TEP that is answered and which record is resumed.
@@ -186,24 +131,6 @@ fn entry_of(entries: [Entry; 4], t: u8) -> Entry
     entries[k]
 }
 
-fn is_fresh(e: Entry) -> bool
-    ensures { λ r. ⌜ r ≡ isFresh (asSent e) ⌝ }
-{
-    if e.byte < 0x80 {
-        return true;
-    }
-    e.len < 9
-}
-
-fn is_bad(e: Entry) -> bool
-    ensures { λ r. ⌜ r ≡ isBad (asSent e) ⌝ }
-{
-    if is_fresh(e) {
-        return false;
-    }
-    18 <= e.len
-}
-
 // Whether A sent a TEP once and not bad.
 fn is_candidate(e: Entry) -> bool
     ensures { λ r. ⌜ r ≡ candidateBy e ⌝ }
@@ -211,7 +138,7 @@ fn is_candidate(e: Entry) -> bool
     if e.times != 1 {
         return false;
     }
-    !is_bad(e)
+    !suboptions::is_bad(e)
 }
 
 // Whether a record is of the TEP t and expects the half that stands in an option at `at`.
@@ -232,7 +159,7 @@ fn is_expecting(session: SessionRecord, t: u8, option: &[u8], at: usize) -> bool
 fn first_expecting(view: View, t: u8, option: &[u8], at: usize) -> usize
     ensures { λ r. ⌜ r ≡ firstThat (expects (now (option .entry)) t at) (seenOf view .held) ⌝ }
 {
-    let n = held_count(view);
+    let n = door::held_count(view);
     let mut i = 0;
     while i < n {
         let session = view.held[i];
@@ -248,11 +175,11 @@ fn first_expecting(view: View, t: u8, option: &[u8], at: usize) -> usize
 fn fitting(view: View, option: &[u8], e: Entry, t: u8) -> usize
     ensures { λ r. ⌜ r ≡ fittingBy (now (option .entry)) t e (seenOf view .held) ⌝ }
 {
-    let n = held_count(view);
+    let n = door::held_count(view);
     if !is_candidate(e) {
         return n;
     }
-    if is_fresh(e) {
+    if suboptions::is_fresh(e) {
         return n;
     }
     first_expecting(view, t, option, e.start)
@@ -262,7 +189,7 @@ fn fitting(view: View, option: &[u8], e: Entry, t: u8) -> usize
 fn last_resumed(view: View, option: &[u8], entries: [Entry; 4], teps: &[u8]) -> Decision
     ensures { λ r. ⌜ decisionOf r ≡ lastResumed (now (option .entry)) entries (now (teps .entry)) (seenOf view .held) ⌝ }
 {
-    let n = held_count(view);
+    let n = door::held_count(view);
     let mut i = teps.len();
     while 0 < i {
         i -= 1;
@@ -280,14 +207,14 @@ fn last_resumed(view: View, option: &[u8], entries: [Entry; 4], teps: &[u8]) -> 
 fn last_fresh(view: View, entries: [Entry; 4], teps: &[u8]) -> Decision
     ensures { λ r. ⌜ decisionOf r ≡ lastFresh entries (now (teps .entry)) (seenOf view .held) ⌝ }
 {
-    let n = held_count(view);
+    let n = door::held_count(view);
     let mut i = teps.len();
     while 0 < i {
         i -= 1;
-        let tep = teps[i];
-        let e = entry_of(entries, tep);
+        let t = teps[i];
+        let e = entry_of(entries, t);
         if is_candidate(e) {
-            return Decision::With { tep, at: n };
+            return Decision::With { tep: t, at: n };
         }
     }
     Decision::Plain(6)
@@ -397,7 +324,7 @@ fn respond(
     requires { ⌜ (length (now option) ≤ 40) × (answerFits tep (recordAt (seenOf view .held) at) (now nonce) ≡ true) ⌝ }
     ensures { λ r. ⌜ outcomeAs (replyOf (r .reply) []) (now (out .exit)) (r .door) (effectOf (r .change) noSession) ≡ responded (seenOf view) aware mandatory (now (option .entry)) (now (nonce .entry)) (now (out .entry)) (with (chosen tep at)) ⌝ }
 {
-    let n = held_count(view);
+    let n = door::held_count(view);
     let hand = hand_at(view, at);
     let said = option_writer::write_answer(aware, tep, hand, nonce, out);
     match said {
@@ -412,19 +339,11 @@ fn respond(
         }
         OptionWritten::NoRoom => {
             let door = view.door;
-            Opening {
-                door,
-                change: Change::Keep,
-                reply: Reply::Refused(Refusal::NoRoom),
-            }
+            refused(door, Refusal::NoRoom)
         }
         OptionWritten::Unfit => {
             let door = view.door;
-            Opening {
-                door,
-                change: Change::Keep,
-                reply: Reply::Refused(Refusal::Unfit),
-            }
+            refused(door, Refusal::Unfit)
         }
     }
 }
@@ -441,33 +360,21 @@ pub fn answer(
 ) -> Opening
     ensures { λ r. ⌜ outcomeAs (replyOf (r .reply) []) (now (out .exit)) (r .door) (effectOf (r .change) noSession) ≡ answer (seenOf view) (now (area .entry)) aware mandatory (now (teps .entry)) (now (nonce .entry)) (now (out .entry)) ⌝ }
 {
-    let door = view.door;
+    let before = view.door;
     if 40 < area.len() {
-        return Opening {
-            door,
-            change: Change::Keep,
-            reply: Reply::Refused(Refusal::AreaTooLong),
-        };
+        return refused(before, Refusal::AreaTooLong);
     }
     if !terms_fit(aware, mandatory, teps, nonce) {
-        return Opening {
-            door,
-            change: Change::Keep,
-            reply: Reply::Refused(Refusal::Unfit),
-        };
+        return refused(before, Refusal::Unfit);
     }
-    if !is_idle(door.phase) {
-        return Opening {
-            door,
-            change: Change::Keep,
-            reply: Reply::Refused(Refusal::OutOfTurn),
-        };
+    if !is_idle(before.phase) {
+        return refused(before, Refusal::OutOfTurn);
     }
     let option = finder::find_option(area, true);
     let decision = decide(view, area, option, mandatory, teps);
     match decision {
         Decision::Plain(reason) => {
-            let after = plain_door(reason);
+            let after = door::plain_door(reason);
             Opening {
                 door: after,
                 change: Change::Keep,
@@ -482,11 +389,11 @@ pub fn answer(
 fn first_listed(view: View, teps: &[u8]) -> usize
     ensures { λ r. ⌜ r ≡ firstThat (isOfListed (now (teps .entry))) (seenOf view .held) ⌝ }
 {
-    let n = held_count(view);
+    let n = door::held_count(view);
     let mut i = 0;
     while i < n {
         let session = view.held[i];
-        if is_listed(session.tep, teps) {
+        if option_writer::is_listed(session.tep, teps) {
             return i;
         }
         i += 1;
@@ -501,7 +408,7 @@ fn offered_at(view: View, resume: bool, teps: &[u8]) -> usize
     if resume {
         return first_listed(view, teps);
     }
-    held_count(view)
+    door::held_count(view)
 }
 
 fn offered_door(own: &[u8], mandatory: bool, hand: InHand) -> Door
@@ -539,7 +446,7 @@ fn propose(
     requires { ⌜ offerFits b (now teps) (recordAt (seenOf view .held) j) (now nonce) ≡ true ⌝ }
     ensures { λ r. ⌜ outcomeAs (replyOf (r .reply) []) (now (out .exit)) (r .door) (effectOf (r .change) noSession) ≡ proposed (seenOf view) b aware mandatory (now (teps .entry)) j (now (nonce .entry)) (now (out .entry)) ⌝ }
 {
-    let n = held_count(view);
+    let n = door::held_count(view);
     let hand = hand_at(view, j);
     let said = option_writer::write_offer(b, aware, teps, hand, nonce, out);
     match said {
@@ -554,19 +461,11 @@ fn propose(
         }
         OptionWritten::NoRoom => {
             let door = view.door;
-            Opening {
-                door,
-                change: Change::Keep,
-                reply: Reply::Refused(Refusal::NoRoom),
-            }
+            refused(door, Refusal::NoRoom)
         }
         OptionWritten::Unfit => {
             let door = view.door;
-            Opening {
-                door,
-                change: Change::Keep,
-                reply: Reply::Refused(Refusal::Unfit),
-            }
+            refused(door, Refusal::Unfit)
         }
     }
 }
@@ -586,25 +485,13 @@ pub fn offer(
 {
     let door = view.door;
     if 1 < b {
-        return Opening {
-            door,
-            change: Change::Keep,
-            reply: Reply::Refused(Refusal::Unfit),
-        };
+        return refused(door, Refusal::Unfit);
     }
     if !terms_fit(aware, mandatory, teps, nonce) {
-        return Opening {
-            door,
-            change: Change::Keep,
-            reply: Reply::Refused(Refusal::Unfit),
-        };
+        return refused(door, Refusal::Unfit);
     }
     if !is_idle(door.phase) {
-        return Opening {
-            door,
-            change: Change::Keep,
-            reply: Reply::Refused(Refusal::OutOfTurn),
-        };
+        return refused(door, Refusal::OutOfTurn);
     }
     let j = offered_at(view, resume, teps);
     propose(view, b, aware, mandatory, teps, j, nonce, out)

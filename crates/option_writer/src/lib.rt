@@ -21,7 +21,7 @@ pub enum OptionWritten {
 }
 
 // Whether t is one of a list.
-fn is_listed(t: u8, list: &[u8]) -> bool
+pub fn is_listed(t: u8, list: &[u8]) -> bool
     ensures { λ r. ⌜ r ≡ isListed t (now (list .entry)) ⌝ }
 {
     let mut i = 0;

@@ -18,7 +18,7 @@ ghost use Rattle.door.specs.Records.{isInHand, isRecord};
 ghost use Rattle.door.specs.Records as records;
 ghost use Rattle.door.specs.Answers.{replyOf, effectOf, outcomeAs};
 ghost use Rattle.records.specs.Answers.{refusedStore, StoresAs};
-ghost use Rattle.records.specs.Steps.{isNamed, Counts};
+ghost use Rattle.records.specs.Steps.{isNamed};
 
 // What store does; `added` is the record that is added, else zeros.
 pub struct Stored {
@@ -31,23 +31,6 @@ pub struct Stored {
 pub struct Forgotten {
     pub change: Change,
     pub reply: Reply,
-}
-
-fn wide(x: u8) -> usize
-    ensures { λ r. ⌜ r ≡ x ⌝ }
-{
-    x as usize
-}
-
-// How many records a view has: at most EACH, whatever its count says.
-fn held_count(view: View) -> usize
-    ensures { λ r. ⌜ Counts view r ⌝ }
-{
-    let n = wide(view.count);
-    if EACH < n {
-        return EACH;
-    }
-    n
 }
 
 // Whether a record has this TEP and this identifier.
@@ -65,7 +48,7 @@ fn is_session(session: SessionRecord, tep: u8, identifier: &[u8]) -> bool
 fn first_session(view: View, tep: u8, identifier: &[u8]) -> usize
     ensures { λ r. ⌜ r ≡ firstThat (isSession tep (now (identifier .entry))) (seenOf view .held) ⌝ }
 {
-    let n = held_count(view);
+    let n = door::held_count(view);
     let mut i = 0;
     while i < n {
         let session = view.held[i];
@@ -132,25 +115,11 @@ fn secret_of(s: &[u8]) -> [u8; 32]
     bytes
 }
 
-// Zeros.
-fn no_session() -> SessionRecord
-    ensures { λ r. ⌜ r ≡ noSession ⌝ }
-{
-    let identifier = [0u8; 18];
-    let secret = [0u8; 32];
-    SessionRecord {
-        tep: 0,
-        role: 0,
-        identifier,
-        secret,
-    }
-}
-
 // A store that is refused.
 fn refused(why: Refusal) -> Stored
     ensures { λ r. ⌜ r ≡ refusedStore why ⌝ }
 {
-    let zeros = no_session();
+    let zeros = door::no_session();
     Stored {
         change: Change::Keep,
         added: zeros,
@@ -165,7 +134,7 @@ pub fn store(view: View, free: bool, tep: u8, role: u8, identifier: &[u8], secre
     if !is_record(tep, role, identifier, secret) {
         return refused(Refusal::Unfit);
     }
-    let n = held_count(view);
+    let n = door::held_count(view);
     if EACH <= n {
         return refused(Refusal::Full);
     }
@@ -206,7 +175,7 @@ pub fn forget(view: View, tep: u8, identifier: &[u8]) -> Forgotten
             reply: Reply::Refused(Refusal::Unfit),
         };
     }
-    let n = held_count(view);
+    let n = door::held_count(view);
     let place = first_session(view, tep, identifier);
     if n <= place {
         return Forgotten {
@@ -224,6 +193,6 @@ pub fn forget(view: View, tep: u8, identifier: &[u8]) -> Forgotten
 pub fn count(view: View) -> Reply
     ensures { λ r. ⌜ outcomeAs (replyOf r []) [] (view .door) keep ≡ records.count (seenOf view) ⌝ }
 {
-    let n = held_count(view);
+    let n = door::held_count(view);
     Reply::Holds(n)
 }

@@ -1,4 +1,4 @@
--- The doors that are built: in Plain, opened, judged.
+-- The doors that are built: opened, judged.
 use Prim.Native.Nat.{ℕ, zero, suc, _+_, _-_, _≤_}
 use mathlib.Core.Path.{_≡_, refl, _∙_, ap}
 use mathlib.Core.List.{List, _++_}
@@ -9,8 +9,7 @@ use Rattle.wire.specs.Bytes.{pasted}
 use Rattle.wire.specs.ByteLaws.{pasted-fits}
 use Rattle.eno.specs.declared.InHand.{InHand}
 use Rattle.eno.specs.Judge.{isResumed, wayIf}
-use Rattle.door.specs.Door.{kept, emptyHand, idleDoor}
-use Rattle.door.specs.Answer.{plainDoor}
+use Rattle.door.specs.Door.{kept}
 use Rattle.door.specs.Receive.{openHand, openDoor, judgedDoor}
 use Rattle.door.specs.declared.Door.{Door}
 use Rattle.segments.specs.Steps.{openIf}
@@ -31,14 +30,6 @@ doorOf phase mandatory reason role tep resumed own-length peer-length own peer h
       peer = peer;
       hand = hand;
     }
-
-pub idle-with : (h : InHand) → h ≡ emptyHand → doorOf 0 false 0 0 0 false 0 0 (replicate 40 0) (replicate 40 0) h ≡ idleDoor
-unfolding idleDoor
-idle-with h e = ap (λ x. doorOf 0 false 0 0 0 false 0 0 (replicate 40 0) (replicate 40 0) x) e
-
-pub plain-with : (reason : ℕ) (h : InHand) → h ≡ emptyHand → doorOf 5 false reason 0 0 false 0 0 (replicate 40 0) (replicate 40 0) h ≡ plainDoor reason
-unfolding plainDoor kept
-plain-with reason h e = ap (λ x. doorOf 5 false reason 0 0 false 0 0 (replicate 40 0) (replicate 40 0) x) e
 
 module _ (d : Door) where
   pub open-with : (h : InHand) → h ≡ openHand (d .resumed) (d .hand)

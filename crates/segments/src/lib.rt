@@ -4,7 +4,6 @@ use door::Phase;
 use door::Refusal;
 use door::Reply;
 use eno::InHand;
-use eno::SessionRecord;
 use finder::FindStatus;
 use judge::Reason;
 use judge::Verdict;
@@ -17,9 +16,8 @@ ghost use Rattle.wire.specs.Bytes.{pasted};
 ghost use Rattle.eno.specs.Judge.{ofA, ofB};
 ghost use Rattle.judge.specs.Answers.{reasonNumber};
 ghost use Rattle.eno.specs.Judge.{wayIf};
-ghost use Rattle.door.specs.Door.{offering, crossed, answering, opened, phaseOf, emptyHand, idleDoor};
+ghost use Rattle.door.specs.Door.{offering, crossed, answering, opened, phaseOf};
 ghost use Rattle.door.specs.Outcome.{keep};
-ghost use Rattle.door.specs.Answer.{plainDoor};
 ghost use Rattle.door.specs.Receive.{turn, openHand, openDoor, judgedDoor, judging, comparing, presence, secondReason, received, replies, receive, maySend, resend, result, close};
 ghost use Rattle.door.specs.Answers.{phaseAs, replyOf, outcomeAs, secretBeside};
 ghost use Rattle.segments.specs.Steps.{turnAs, reasonAs, absenceOf, openIf};
@@ -126,21 +124,6 @@ fn kept_length(stored: u8) -> usize
     40
 }
 
-fn empty_hand() -> InHand
-    ensures { λ r. ⌜ r ≡ emptyHand ⌝ }
-{
-    let session = SessionRecord {
-        tep: 0,
-        role: 0,
-        identifier: [0u8; 18],
-        secret: [0u8; 32],
-    };
-    InHand {
-        held: false,
-        session,
-    }
-}
-
 // What is in hand after the door opens: a fresh Open drops it.
 fn open_hand(resumed: bool, hand: InHand) -> InHand
     ensures { λ r. ⌜ r ≡ openHand resumed hand ⌝ }
@@ -148,46 +131,7 @@ fn open_hand(resumed: bool, hand: InHand) -> InHand
     if resumed {
         return hand;
     }
-    empty_hand()
-}
-
-fn idle_door() -> Door
-    ensures { λ r. ⌜ r ≡ idleDoor ⌝ }
-{
-    let hand = empty_hand();
-    Door {
-        phase: 0,
-        mandatory: false,
-        reason: 0,
-        role: 0,
-        tep: 0,
-        resumed: false,
-        own_length: 0,
-        peer_length: 0,
-        own: [0u8; 40],
-        peer: [0u8; 40],
-        hand,
-    }
-}
-
-// A door in Plain: what was in hand is dropped.
-fn plain_door(reason: u8) -> Door
-    ensures { λ r. ⌜ r ≡ plainDoor reason ⌝ }
-{
-    let hand = empty_hand();
-    Door {
-        phase: 5,
-        mandatory: false,
-        reason,
-        role: 0,
-        tep: 0,
-        resumed: false,
-        own_length: 0,
-        peer_length: 0,
-        own: [0u8; 40],
-        peer: [0u8; 40],
-        hand,
-    }
+    door::empty_hand()
 }
 
 // The door opened with the verdict that it stores.
@@ -274,7 +218,7 @@ fn after_judging(door: Door, opens: bool, area: &[u8]) -> Door
         Verdict::Refused => door,
         Verdict::Plain(reason) => {
             let number = reason_number(reason);
-            plain_door(number)
+            door::plain_door(number)
         }
         Verdict::Encrypted { role, tep, resumed } => {
             let option = finder::find_option(area, true);
@@ -325,7 +269,7 @@ fn after_comparing(door: Door, opens: bool, area: &[u8]) -> Door
     if reason == 0 {
         return open_if(opens, door);
     }
-    plain_door(reason)
+    door::plain_door(reason)
 }
 
 // A segment without SYN shows that the option arrived, by having one.
@@ -336,7 +280,7 @@ fn after_presence(door: Door, area: &[u8]) -> Door
     if reason == 0 {
         return open_door(door);
     }
-    plain_door(reason)
+    door::plain_door(reason)
 }
 
 // The phase that the door is in; in Plain the reason.
@@ -501,7 +445,7 @@ pub fn result(door: Door, out: &mut [u8]) -> Resulted
 pub fn close() -> Received
     ensures { λ r. ⌜ outcomeAs (replyOf (r .reply) []) [] (r .door) keep ≡ close ⌝ }
 {
-    let door = idle_door();
+    let door = door::idle_door();
     Received {
         door,
         reply: Reply::Done,

@@ -23,6 +23,10 @@ pieceOf (at.Tep c b i n j) = item (tep (record { counted = c; byte = b; start = 
 abbrev pub never : Entry
 never = record { times = 0; byte = 0; start = 0; len = 0 }
 
+-- a TEP that was sent, by its entry
+abbrev pub asSent : Entry → Sent
+asSent e = record { counted = false; byte = e .byte; start = e .start; len = e .len }
+
 -- sent once more
 unfoldable pub again : Entry → Sent → Entry
 again e x = record { times = e .times + 1; byte = x .byte; start = x .start; len = x .len }

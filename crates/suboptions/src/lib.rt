@@ -1,7 +1,8 @@
 // The suboptions of an ENO option, read in one walk for all TEPs that the unit knows.
 ghost use mathlib.Core.Path.{_≡_};
 ghost use Rattle.eno.specs.Suboption.{suboptionAt};
-ghost use Rattle.suboptions.specs.Summary.{pieceOf, summaryOf};
+ghost use Rattle.eno.specs.Judge.{isFresh, isBad};
+ghost use Rattle.suboptions.specs.Summary.{pieceOf, asSent, summaryOf};
 
 // What stands at a place of an option.
 enum SuboptionAt {
@@ -78,6 +79,26 @@ pub struct Entry {
     pub byte: u8,
     pub start: usize,
     pub len: usize,
+}
+
+// Whether what was sent of a TEP is fresh.
+pub fn is_fresh(e: Entry) -> bool
+    ensures { λ r. ⌜ r ≡ isFresh (asSent e) ⌝ }
+{
+    if e.byte < 0x80 {
+        return true;
+    }
+    e.len < 9
+}
+
+// Whether it is bad.
+pub fn is_bad(e: Entry) -> bool
+    ensures { λ r. ⌜ r ≡ isBad (asSent e) ⌝ }
+{
+    if is_fresh(e) {
+        return false;
+    }
+    18 <= e.len
 }
 
 // What an option says: b, a, and of each TEP from 21 to 24 how it was sent.

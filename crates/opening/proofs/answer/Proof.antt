@@ -2,34 +2,47 @@
 use mathlib.Core.Path.{_≡_, refl, sym, _∙_, ap}
 use native.Mathlib.Omega.{arith}
 use borrow.Author.Tests.{not-true, not-false}
-use Rattle.door.specs.Door.{seenOf}
+use Rattle.door.specs.Door.{Seen, seenOf}
 use mathlib.Core.List.{[]}
 use Rattle.eno.specs.Area.{synOption}
 use Rattle.opening.specs.Choosing.{decisionOf}
 use Rattle.opening.proofs.Terms.{terms-list}
 use Rattle.opening.proofs.Deciding.{option-short}
-use Rattle.opening.proofs.Outcomes.{answer-long, answer-terms, answer-turn, answer-plain, answer-with, answer-fits}
+use Rattle.opening.proofs.Outcomes.{refuses, answer-long, answer-terms, answer-turn, answer-plain, answer-with, answer-fits}
 use borrow.Author.Needs.{needs}
 use Rattle.opening.proofs.answer.Statement.{statement}
 use Rattle.opening.proofs.answer.Tie as tie
 
+-- what the call sees
+abbrev seen : tie.After-before2 → Seen
+seen c = seenOf (c .before .before .before .before .before .args .view)
+
+refused-requires : tie.Need-refused-requires
+refused-requires c κs = search needs
+
 returns : tie.Need-returns
 unfolding seenOf
-returns c = answer-long _ _ _ _ _ _ _ (omega arith)
+returns c = refuses _ _ _ _ _ (c .refused .ensures) (answer-long (seen (c .before .before)) _ _ _ _ _ _ (omega arith))
 
 terms-fit-requires : tie.Need-terms-fit-requires
 terms-fit-requires c κs = search needs
 
+refused-requires-2 : tie.Need-refused-requires-2
+refused-requires-2 c κs = search needs
+
 returns-2 : tie.Need-returns-2
 unfolding seenOf
-returns-2 c = answer-terms _ _ _ _ _ _ _ (omega arith) (sym (c .before .terms-fit .ensures) ∙ not-true _ (c .if2 .taken))
+returns-2 c = let t = c .before in refuses _ _ _ _ _ (c .refused2 .ensures) (answer-terms (seen (t .before .before .before)) _ _ _ _ _ _ (omega arith) (sym (t .before .terms-fit .ensures) ∙ not-true _ (t .if2 .taken)))
 
 is-idle-requires : tie.Need-is-idle-requires
 is-idle-requires c κs = search needs
 
+refused-requires-3 : tie.Need-refused-requires-3
+refused-requires-3 c κs = search needs
+
 returns-3 : tie.Need-returns-3
 unfolding seenOf
-returns-3 c = answer-turn _ _ _ _ _ _ _ (omega arith) (sym (c .before .before .before .terms-fit .ensures) ∙ not-false _ (c .before .before .if2 .left)) (sym (c .before .is-idle .ensures) ∙ not-true _ (c .if3 .taken))
+returns-3 c = let t = c .before in refuses _ _ _ _ _ (c .refused3 .ensures) (answer-turn (seen (t .before .before .before .before .before)) _ _ _ _ _ _ (omega arith) (sym (t .before .before .before .terms-fit .ensures) ∙ not-false _ (t .before .before .if2 .left)) (sym (t .before .is-idle .ensures) ∙ not-true _ (t .if3 .taken)))
 
 find-option-requires : tie.Need-find-option-requires
 find-option-requires c κs = search needs
@@ -66,10 +79,13 @@ pub answer-spec : {M : Type 1} → statement M
 answer-spec =
     tie.close
     (tie.spec
+    refused-requires
     returns
     terms-fit-requires
+    refused-requires-2
     returns-2
     is-idle-requires
+    refused-requires-3
     returns-3
     find-option-requires
     decide-requires

@@ -12,7 +12,7 @@ use Rattle.door.specs.Numbers.{eachN}
 use Rattle.door.specs.Record.{firstThat, pastEnd}
 use Rattle.door.specs.Door.{seenOf}
 use Rattle.opening.specs.Steps.{isOfListed}
-use Rattle.opening.proofs.Held.{seen-at, first-here, first-later, first-none}
+use Rattle.door.specs.Laws.First.{seen-at, first-here, first-later, first-nowhere}
 use Rattle.opening.proofs.first_listed.Statement.{statement}
 use Rattle.opening.proofs.first_listed.Tie as tie
 
@@ -40,7 +40,7 @@ module _ (c : tie.After-is-listed Inv-loop μ-loop) where
   compared : (b : Bool) → c .is-listed .result ≡ b → isOfListed (now (from .args .teps)) (getD shown place pastEnd) ≡ b
   unfolding isOfListed
   compared b e =
-      ap (isOfListed (now (from .args .teps))) (seen-at _ _ (c .before .before .before .before .held-count .ensures) place (omega arith))
+      ap (isOfListed (now (from .args .teps))) (seen-at (from .args .t1) place below)
       ∙ (sym (c .is-listed .ensures) ∙ e)
 
 held-count-requires : tie.Need-held-count-requires Inv-loop μ-loop
@@ -74,7 +74,11 @@ loop-again : tie.Need-loop-again Inv-loop μ-loop
 loop-again c = let x = c .before in (omega arith, first-later _ (shown x) (place x) (x .before .before .before .loop .inv .1) (below x) (compared x false (c .if1 .left)))
 
 returns-2 : tie.Need-returns-2 Inv-loop μ-loop
-returns-2 c = let n = c .before .before .held-count .ensures in let l = c .before .loop in n .seen ∙ first-none _ (seenOf (c .before .before .before .before .args .t1) .held) (l .i) (l .inv .1) (omega (arith, n .seen))
+returns-2 c =
+    let a = c .before .before .before .before .args in
+    let n = c .before .before .held-count .ensures in
+    let l = c .before .loop in
+    omega (arith, n .seen, first-nowhere _ (seenOf (a .t1) .held) (l .i) (l .inv .1) (omega (arith, n .seen)))
 
 pub first-listed-spec : {M : Type 1} → statement M
 first-listed-spec =

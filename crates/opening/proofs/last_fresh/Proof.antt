@@ -27,8 +27,8 @@ loop-holds c = (omega arith, rw take-length)
 sub-i : tie.Need-sub-i Inv-loop μ-loop
 sub-i c = omega arith
 
-shared-slice-read-tep : tie.Need-shared-slice-read-tep Inv-loop μ-loop
-shared-slice-read-tep c = omega arith
+shared-slice-read-t : tie.Need-shared-slice-read-t Inv-loop μ-loop
+shared-slice-read-t c = omega arith
 
 entry-of-requires : tie.Need-entry-of-requires Inv-loop μ-loop
 entry-of-requires c κs = search needs
@@ -57,7 +57,7 @@ last-fresh-spec =
     held-count-requires
     loop-holds
     sub-i
-    shared-slice-read-tep
+    shared-slice-read-t
     entry-of-requires
     is-candidate-requires
     returns

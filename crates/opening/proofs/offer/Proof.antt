@@ -2,31 +2,44 @@
 use mathlib.Core.Path.{_≡_, refl, sym, _∙_, ap}
 use native.Mathlib.Omega.{arith}
 use borrow.Author.Tests.{not-true, not-false}
-use Rattle.door.specs.Door.{seenOf}
+use Rattle.door.specs.Door.{Seen, seenOf}
 use Rattle.opening.proofs.Terms.{terms-list, terms-nonce}
 use Rattle.opening.proofs.Taken.{offer-fits}
-use Rattle.opening.proofs.Outcomes.{offer-role, offer-terms, offer-turn, offer-goes}
+use Rattle.opening.proofs.Outcomes.{refuses, offer-role, offer-terms, offer-turn, offer-goes}
 use borrow.Author.Needs.{needs}
 use Rattle.opening.proofs.offer.Statement.{statement}
 use Rattle.opening.proofs.offer.Tie as tie
 
+-- what the call sees
+abbrev seen : tie.After-door → Seen
+seen c = seenOf (c .before .before .before .before .args .view)
+
+refused-requires : tie.Need-refused-requires
+refused-requires c κs = search needs
+
 returns : tie.Need-returns
 unfolding seenOf
-returns c = offer-role _ _ _ _ _ _ _ _ (omega arith)
+returns c = refuses _ _ _ _ _ (c .refused .ensures) (offer-role (seen (c .before .before)) _ _ _ _ _ _ _ (omega arith))
 
 terms-fit-requires : tie.Need-terms-fit-requires
 terms-fit-requires c κs = search needs
 
+refused-requires-2 : tie.Need-refused-requires-2
+refused-requires-2 c κs = search needs
+
 returns-2 : tie.Need-returns-2
 unfolding seenOf
-returns-2 c = offer-terms _ _ _ _ _ _ _ _ (omega arith) (sym (c .before .terms-fit .ensures) ∙ not-true _ (c .if2 .taken))
+returns-2 c = let t = c .before in refuses _ _ _ _ _ (c .refused2 .ensures) (offer-terms (seen (t .before .before .before)) _ _ _ _ _ _ _ (omega arith) (sym (t .before .terms-fit .ensures) ∙ not-true _ (t .if2 .taken)))
 
 is-idle-requires : tie.Need-is-idle-requires
 is-idle-requires c κs = search needs
 
+refused-requires-3 : tie.Need-refused-requires-3
+refused-requires-3 c κs = search needs
+
 returns-3 : tie.Need-returns-3
 unfolding seenOf
-returns-3 c = offer-turn _ _ _ _ _ _ _ _ (omega arith) (sym (c .before .before .before .terms-fit .ensures) ∙ not-false _ (c .before .before .if2 .left)) (sym (c .before .is-idle .ensures) ∙ not-true _ (c .if3 .taken))
+returns-3 c = let t = c .before in refuses _ _ _ _ _ (c .refused3 .ensures) (offer-turn (seen (t .before .before .before .before .before)) _ _ _ _ _ _ _ (omega arith) (sym (t .before .before .before .terms-fit .ensures) ∙ not-false _ (t .before .before .if2 .left)) (sym (t .before .is-idle .ensures) ∙ not-true _ (t .if3 .taken)))
 
 offered-at-requires : tie.Need-offered-at-requires
 offered-at-requires c κs = search needs
@@ -45,10 +58,13 @@ pub offer-spec : {M : Type 1} → statement M
 offer-spec =
     tie.close
     (tie.spec
+    refused-requires
     returns
     terms-fit-requires
+    refused-requires-2
     returns-2
     is-idle-requires
+    refused-requires-3
     returns-3
     offered-at-requires
     propose-requires

@@ -12,7 +12,7 @@ use Rattle.eno.specs.Laws.Asked.{answer-may-be-asked}
 use Rattle.opening.specs.Steps.{taking, doorAnswered}
 use Rattle.opening.proofs.Writing.{Wrote, said-wrote, said-no-room, said-unfit, within, written-option, written-short, answer-said, room-for-v}
 use Rattle.opening.proofs.Doors.{door-answered}
-use Rattle.opening.proofs.Outcomes.{responded-over, responded-option}
+use Rattle.opening.proofs.Outcomes.{refuses, responded-over, responded-option}
 use Rattle.eno.specs.declared.SessionRecord.{SessionRecord}
 use Rattle.option_writer.specs.Answers.{writingOf}
 use Rattle.door.specs.Door.{seenOf}
@@ -73,8 +73,14 @@ change-of-requires c κs = search needs
 enum-told : tie.Need-enum-told
 enum-told c = search needs
 
+refused-requires : tie.Need-refused-requires
+refused-requires c κs = search needs
+
 enum-told-2 : tie.Need-enum-told-2
 enum-told-2 c = search needs
+
+refused-requires-2 : tie.Need-refused-requires-2
+refused-requires-2 c κs = search needs
 
 same-length : tie.Need-same-length
 same-length c = search needs
@@ -87,13 +93,13 @@ same-length-2 c = search needs
 
 returns-2 : tie.Need-returns-2
 unfolding seenOf
-returns-2 c = let w = c .before .before .before .before .before in let n = said-no-room _ _ _ _ (said w) (c .before .enum-told .given .1) in responded-over _ _ _ _ _ _ _ _ (n .0) _ (n .1)
+returns-2 c = let x = c .before .before in let w = x .before .before .before .before in let n = said-no-room _ _ _ _ (said w) (x .enum-told .given .1) in refuses _ _ _ _ _ (c .refused .ensures) (responded-over (seenOf (from w .args .view)) _ _ _ _ _ _ _ (n .0) _ (n .1))
 
 same-length-3 : tie.Need-same-length-3
 same-length-3 c = search needs
 
 returns-3 : tie.Need-returns-3
-returns-3 c = absurd (said-unfit _ _ _ _ (said (c .before .before .before .before .before)) (c .before .enum-told2 .given .1))
+returns-3 c = let x = c .before .before in absurd (said-unfit _ _ _ _ (said (x .before .before .before .before)) (x .enum-told2 .given .1))
 
 pub respond-spec : {M : Type 1} → statement M
 respond-spec =
@@ -109,7 +115,9 @@ respond-spec =
     answered-door-requires
     change-of-requires
     enum-told
+    refused-requires
     enum-told-2
+    refused-requires-2
     same-length
     returns
     same-length-2

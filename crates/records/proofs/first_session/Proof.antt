@@ -11,7 +11,7 @@ use Rattle.eno.specs.declared.SessionRecord.{SessionRecord}
 use Rattle.door.specs.Numbers.{eachN}
 use Rattle.door.specs.Record.{firstThat, isSession, pastEnd}
 use Rattle.door.specs.Door.{seenOf}
-use Rattle.records.specs.FirstLaws.{seen-at, first-here, first-later, first-nowhere}
+use Rattle.door.specs.Laws.First.{seen-at, first-here, first-later, first-nowhere}
 use Rattle.records.proofs.first_session.Statement.{statement}
 use Rattle.records.proofs.first_session.Tie as tie
 

@@ -7,8 +7,12 @@ use borrow.Author.Needs.{needs}
 use Rattle.segments.proofs.resend.Statement.{statement}
 use Rattle.segments.proofs.resend.Tie as tie
 
-forty : (c : tie.Start) → length (c .args .door .own) ≡ 40
-forty c = simp length-map at (c .good .0 .1 .1 .1 .1 .1 .1 .1 .1 .1 .1 .0 .1 .0 .1)
+-- each of the door's two options is an array of 40
+own-forty : (c : tie.Start) → length (c .args .door .own) ≡ 40
+own-forty c = simp length-map at (c .good .0 .1 .1 .1 .1 .1 .1 .1 .1 .1 .1 .0 .1 .0 .1)
+
+peer-forty : (c : tie.Start) → length (c .args .door .peer) ≡ 40
+peer-forty c = simp length-map at (c .good .0 .1 .1 .1 .1 .1 .1 .1 .1 .1 .1 .1 .0 .1 .0 .1)
 
 phase-of-requires : tie.Need-phase-of-requires
 phase-of-requires c κs = search needs
@@ -20,7 +24,7 @@ kept-length-requires : tie.Need-kept-length-requires
 kept-length-requires c κs = search needs
 
 returns : tie.Need-returns
-returns c = resend-short _ _ (c .before .before .before .before .before .phase-of .result) (c .before .before .before .before .before .phase-of .ensures) _ (c .before .before .before .before .may-send .ensures) (c .before .before .before .if1 .taken) (forty (c .before .before .before .before .before .before .before)) _ (c .before .kept-length .ensures .0) (omega arith)
+returns c = resend-short _ _ (c .before .before .before .before .before .phase-of .result) (c .before .before .before .before .before .phase-of .ensures) _ (c .before .before .before .before .may-send .ensures) (c .before .before .before .if1 .taken) (own-forty (c .before .before .before .before .before .before .before)) _ (c .before .kept-length .ensures .0) (omega arith)
 
 sub-copy : tie.Need-sub-copy
 sub-copy c = search needs
@@ -29,7 +33,7 @@ part-copy-start : tie.Need-part-copy-start
 part-copy-start c = search needs
 
 part-copy-end : tie.Need-part-copy-end
-part-copy-end c = omega (arith, forty (c .before .before .before .before .before .before .before .before .before))
+part-copy-end c = let s = c .before .before .before .before .before .before .before .before .before in omega (arith, own-forty s, peer-forty s)
 
 copy-requires : tie.Need-copy-requires
 copy-requires c κs = search needs
@@ -38,7 +42,7 @@ same-length : tie.Need-same-length
 same-length c = search needs
 
 returns-2 : tie.Need-returns-2
-returns-2 c = resend-written _ _ (c .before .before .before .before .before .before .before .before .before .before .before .phase-of .result) (c .before .before .before .before .before .before .before .before .before .before .before .phase-of .ensures) _ (c .before .before .before .before .before .before .before .before .before .before .may-send .ensures) (c .before .before .before .before .before .before .before .before .before .if1 .taken) (forty (c .before .before .before .before .before .before .before .before .before .before .before .before .before)) _ (c .before .before .before .before .before .before .before .kept-length .ensures .0) (omega arith) _ (c .before .before .copy .ensures)
+returns-2 c = resend-written _ _ (c .before .before .before .before .before .before .before .before .before .before .before .phase-of .result) (c .before .before .before .before .before .before .before .before .before .before .before .phase-of .ensures) _ (c .before .before .before .before .before .before .before .before .before .before .may-send .ensures) (c .before .before .before .before .before .before .before .before .before .if1 .taken) (own-forty (c .before .before .before .before .before .before .before .before .before .before .before .before .before)) _ (c .before .before .before .before .before .before .before .kept-length .ensures .0) (omega arith) _ (c .before .before .copy .ensures)
 
 returns-3 : tie.Need-returns-3
 returns-3 c = resend-out _ _ (c .before .before .phase-of .result) (c .before .before .phase-of .ensures) _ (c .before .may-send .ensures) (c .if1 .left)

@@ -7,8 +7,12 @@ use borrow.Author.Needs.{needs}
 use Rattle.segments.proofs.second_reason.Statement.{statement}
 use Rattle.segments.proofs.second_reason.Tie as tie
 
-forty : (c : tie.Start) → length (c .args .door .peer) ≡ 40
-forty c = simp length-map at (c .good .0 .1 .1 .1 .1 .1 .1 .1 .1 .1 .1 .1 .0 .1 .0 .1)
+-- each of the door's two options is an array of 40
+own-forty : (c : tie.Start) → length (c .args .door .own) ≡ 40
+own-forty c = simp length-map at (c .good .0 .1 .1 .1 .1 .1 .1 .1 .1 .1 .1 .0 .1 .0 .1)
+
+peer-forty : (c : tie.Start) → length (c .args .door .peer) ≡ 40
+peer-forty c = simp length-map at (c .good .0 .1 .1 .1 .1 .1 .1 .1 .1 .1 .1 .1 .0 .1 .0 .1)
 
 absence-requires : tie.Need-absence-requires
 absence-requires c κs = search needs
@@ -35,7 +39,7 @@ part-same-start : tie.Need-part-same-start
 part-same-start c = search needs
 
 part-same-end : tie.Need-part-same-end
-part-same-end c = omega (arith, forty (c .before .before .before .before .before .before .before .before .before))
+part-same-end c = let s = c .before .before .before .before .before .before .before .before .before in omega (arith, own-forty s, peer-forty s)
 
 same-requires : tie.Need-same-requires
 same-requires c κs = search needs

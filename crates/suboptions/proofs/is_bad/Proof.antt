@@ -1,8 +1,8 @@
--- `is_bad` meets its contract.
-use Rattle.judge.proofs.Steps.{bad-fresh, bad-long}
+-- `suboptions::is_bad` meets its contract.
+use Rattle.suboptions.proofs.Fresh.{bad-fresh, bad-long}
 use borrow.Author.Needs.{needs}
-use Rattle.judge.proofs.is_bad.Statement.{statement}
-use Rattle.judge.proofs.is_bad.Tie as tie
+use Rattle.suboptions.proofs.is_bad.Statement.{statement}
+use Rattle.suboptions.proofs.is_bad.Tie as tie
 
 is-fresh-requires : tie.Need-is-fresh-requires
 is-fresh-requires c κs = search needs

@@ -1,8 +1,8 @@
--- `idle_door` meets its contract.
-use Rattle.segments.proofs.Doors.{idle-with}
+-- `door::idle_door` meets its contract.
 use borrow.Author.Needs.{needs}
-use Rattle.segments.proofs.idle_door.Statement.{statement}
-use Rattle.segments.proofs.idle_door.Tie as tie
+use Rattle.door.proofs.Making.{idle-with}
+use Rattle.door.proofs.idle_door.Statement.{statement}
+use Rattle.door.proofs.idle_door.Tie as tie
 
 empty-hand-requires : tie.Need-empty-hand-requires
 empty-hand-requires c κs = search needs

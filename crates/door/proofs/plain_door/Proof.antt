@@ -1,8 +1,8 @@
--- `plain_door` meets its contract.
-use Rattle.segments.proofs.Doors.{plain-with}
+-- `door::plain_door` meets its contract.
 use borrow.Author.Needs.{needs}
-use Rattle.segments.proofs.plain_door.Statement.{statement}
-use Rattle.segments.proofs.plain_door.Tie as tie
+use Rattle.door.proofs.Making.{plain-with}
+use Rattle.door.proofs.plain_door.Statement.{statement}
+use Rattle.door.proofs.plain_door.Tie as tie
 
 empty-hand-requires : tie.Need-empty-hand-requires
 empty-hand-requires c κs = search needs

@@ -1,8 +1,8 @@
--- `is_fresh` meets its contract.
+-- `suboptions::is_fresh` meets its contract.
 use native.Mathlib.Omega.{arith}
-use Rattle.judge.proofs.Steps.{fresh-bare, fresh-short}
-use Rattle.judge.proofs.is_fresh.Statement.{statement}
-use Rattle.judge.proofs.is_fresh.Tie as tie
+use Rattle.suboptions.proofs.Fresh.{fresh-bare, fresh-short}
+use Rattle.suboptions.proofs.is_fresh.Statement.{statement}
+use Rattle.suboptions.proofs.is_fresh.Tie as tie
 
 returns : tie.Need-returns
 returns c = fresh-bare _ (omega arith)

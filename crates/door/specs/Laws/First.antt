@@ -8,25 +8,10 @@ use native.Mathlib.Omega.{arith}
 use lib.ListN.{length, getD, drop, length-take, drop-of-length-le}
 use lib.Seq.{drop-cons, getD-take}
 use Rattle.eno.specs.declared.SessionRecord.{SessionRecord}
 use Rattle.door.specs.Numbers.{eachN}
 use Rattle.door.specs.Record.{firstThat, pastEnd}
 use Rattle.door.specs.Door.{seenOf}
 use Rattle.door.specs.declared.View.{View}
-use Rattle.records.specs.Steps.{Counts}
-
--- the count of a view whose array has a place for each record
-module _ (v : View) (places : length (v .held) ≡ eachN) where
-  seen-length : length (seenOf v .held) ≡ min (v .count) eachN
-  unfolding seenOf
-  seen-length = length-take (min (v .count) eachN) (v .held) ∙ omega (arith, places)
-
-  -- above the most
-  pub counts-most : eachN < v .count → Counts v eachN
-  counts-most h = record { seen = omega (arith, seen-length); few = omega arith; places = places }
-
-  -- not above
-  pub counts-given : v .count ≤ eachN → Counts v (v .count)
-  counts-given h = record { seen = omega (arith, seen-length); few = h; places = places }
 
 -- a record that is seen is the one in the array
 pub seen-at : (v : View) (i : ℕ) → i < length (seenOf v .held) → getD (seenOf v .held) i pastEnd ≡ getD (v .held) i pastEnd

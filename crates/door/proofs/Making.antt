@@ -1,0 +1,42 @@
+-- The records and doors that are made, by what they hold. Assumes nothing.
+use Prim.Native.Nat.{ℕ}
+use mathlib.Core.Path.{_≡_, ap}
+use mathlib.Core.Bool.{false}
+use lib.ListN.{replicate}
+use Rattle.eno.specs.declared.SessionRecord.{SessionRecord}
+use Rattle.eno.specs.declared.InHand.{InHand}
+use Rattle.door.specs.Door.{kept, noSession, emptyHand, idleDoor}
+use Rattle.door.specs.Answer.{plainDoor}
+use Rattle.door.specs.declared.Door.{Door}
+
+abbrev notHeld : SessionRecord → InHand
+notHeld r = record { held = false; session = r }
+
+pub empty-with : (r : SessionRecord) → r ≡ noSession → notHeld r ≡ emptyHand
+unfolding emptyHand
+empty-with r e = ap (λ x. notHeld x) e
+
+-- a door of zeros in a phase
+abbrev doorIn : (phase reason : ℕ) → InHand → Door
+doorIn phase reason hand =
+    record {
+      phase = phase;
+      mandatory = false;
+      reason = reason;
+      role = 0;
+      tep = 0;
+      resumed = false;
+      «own_length» = 0;
+      «peer_length» = 0;
+      own = replicate 40 0;
+      peer = replicate 40 0;
+      hand = hand;
+    }
+
+pub idle-with : (h : InHand) → h ≡ emptyHand → doorIn 0 0 h ≡ idleDoor
+unfolding idleDoor
+idle-with h e = ap (λ x. doorIn 0 0 x) e
+
+pub plain-with : (reason : ℕ) (h : InHand) → h ≡ emptyHand → doorIn 5 reason h ≡ plainDoor reason
+unfolding plainDoor kept
+plain-with reason h e = ap (λ x. doorIn 5 reason x) e
