@@ -102,7 +102,7 @@ module _ (owners : List ℕ) (d : ℕ) (x : Position) (f : Sound owners d x) whe
     fresh-row : NotIn (firstFree owners) (mine x)
     fresh-row = own-not-in owners d (firstFree owners) (mine x) (f .own) (λ q. omega (arith, free-owner owners free))
 
-    added : List ℕ
+    unfoldable pub added : List ℕ
     added = set (x .rows) (countOf x) (firstFree owners)
 
     add-slots : take (suc (countOf x)) added ≡ mine x ++ firstFree owners ∷ []
@@ -112,7 +112,7 @@ module _ (owners : List ℕ) (d : ℕ) (x : Position) (f : Sound owners d x) whe
     add-most : min (suc (countOf x)) eachN ≡ suc (countOf x)
     add-most = omega arith
 
-    add-mine : take (min (suc (countOf x)) eachN) added ≡ mine x ++ firstFree owners ∷ []
+    pub add-mine : take (min (suc (countOf x)) eachN) added ≡ mine x ++ firstFree owners ∷ []
     add-mine = ap (λ n. take n added) add-most ∙ add-slots
 
     add-sound : (l : Door) → Sound (set owners (firstFree owners) (suc d)) d (record { door = l; count = suc (countOf x); rows = set (x .rows) (countOf x) (firstFree owners) })
@@ -140,7 +140,7 @@ module _ (owners : List ℕ) (d : ℕ) (x : Position) (f : Sound owners d x) whe
     abbrev gone : ℕ
     gone = getD (mine x) j 0
 
-    cut-mine : take (min (countOf x - 1) eachN) (cut j (x .rows) ++ 0 ∷ []) ≡ cut j (mine x)
+    pub cut-mine : take (min (countOf x - 1) eachN) (cut j (x .rows) ++ 0 ∷ []) ≡ cut j (mine x)
     cut-mine =
         let m : min (countOf x - 1) eachN ≡ countOf x - 1 = omega arith in
         let p : suc (countOf x - 1) ≡ countOf x = omega arith in
@@ -163,10 +163,10 @@ module _ (owners : List ℕ) (d : ℕ) (x : Position) (f : Sound owners d x) whe
               (own-set owners d gone 0 (cut j (mine x)) cut-row (own-cut owners d j (mine x) (f .own)));
         }
 
-    cut-held : recordsAt (set rows gone noSession) (take (min (countOf x - 1) eachN) (cut j (x .rows) ++ 0 ∷ [])) ≡ cut j (recordsAt rows (mine x))
-    cut-held =
-        ap (λ (is : List ℕ). recordsAt (set rows gone noSession) is) cut-mine
-        ∙ (records-set rows gone noSession (cut j (mine x)) cut-row ∙ records-cut rows j (mine x))
+    cut-held : (z : SessionRecord) → recordsAt (set rows gone z) (take (min (countOf x - 1) eachN) (cut j (x .rows) ++ 0 ∷ [])) ≡ cut j (recordsAt rows (mine x))
+    cut-held z =
+        ap (λ (is : List ℕ). recordsAt (set rows gone z) is) cut-mine
+        ∙ (records-set rows gone z (cut j (mine x)) cut-row ∙ records-cut rows j (mine x))
 
 abbrev seen : Door → List SessionRecord → Seen
 seen l hs = record { door = l; held = hs }
@@ -200,7 +200,7 @@ module _ (u : LinkUnit) (d : ℕ) (s : Inv u) (h : d < doorsN) where
   unfolding rowsAfter positionAfter effected
   its-held keep l fits = refl
   its-held (add r) l fits = add-held (u .owners) d x (s .door d h) (u .rows) r (fits .0) (fits .1) same-sizes
-  its-held (remove j) l fits = cut-held (u .owners) d x (s .door d h) (u .rows) j fits
+  its-held (remove j) l fits = cut-held (u .owners) d x (s .door d h) (u .rows) j fits _
 
   its-count : (e : Effect) (l : Door) → Fits u d e → inUse (ownersAfter (u .owners) d x e) + countOf x ≡ inUse (u .owners) + countOf (positionAfter (u .owners) x l e)
   unfolding ownersAfter positionAfter bit
@@ -226,11 +226,11 @@ module _ (u : LinkUnit) (d : ℕ) (s : Inv u) (h : d < doorsN) where
   same-rows-size (add r) = rw length-set
   same-rows-size (remove j) = rw length-set
 
-  door-same : (e : Effect) (l : Door) → positionAt (enact u d l e) d ≡ positionAfter (u .owners) x l e
+  pub door-same : (e : Effect) (l : Door) → positionAt (enact u d l e) d ≡ positionAfter (u .owners) x l e
   unfolding enact
   door-same e l = getD-set-same (u .doors) d _ pastPosition (omega (arith, s .doors-size))
 
-  door-other : (e : Effect) (l : Door) (k : ℕ) → k ≢ d → positionAt (enact u d l e) k ≡ positionAt u k
+  pub door-other : (e : Effect) (l : Door) (k : ℕ) → k ≢ d → positionAt (enact u d l e) k ≡ positionAt u k
   unfolding enact
   door-other e l k n = getD-set-other (u .doors) d k _ pastPosition n
 

@@ -41,13 +41,13 @@ module _ (u : LinkUnit) (d : ℕ) (s : Inv u) (h : d < doorsN) where
   fits (add r) f = (omega (arith, length-held, f .0), ltb-true _ _ (f .1))
   fits (remove j) f = omega (arith, length-held, f)
 
-  abbrev its : Ask → Outcome
+  abbrev pub its : Ask → Outcome
   its a = outcome (isFree u) (view u d) a
 
-  effect-fits : (a : Ask) → Fits u d (its a .effect)
+  pub effect-fits : (a : Ask) → Fits u d (its a .effect)
   effect-fits a = fits (its a .effect) (outcome-fits (isFree u) (view u d) a)
 
-  step-is : (a : Ask) → step u (on d a) ≡ carried u d (its a)
+  pub step-is : (a : Ask) → step u (on d a) ≡ carried u d (its a)
   unfolding step stepOn
   step-is a = rw (lt-ltb d doorsN h)
 

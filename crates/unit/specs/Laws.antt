@@ -2,3 +2,6 @@
 pub mod Lists
 pub mod Pool
 pub mod Calls
+pub mod Deeds
+pub mod Books
+pub mod Owned

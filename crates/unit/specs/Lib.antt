@@ -7,3 +7,6 @@ pub mod Invariant
 pub mod Isolation
 pub mod Refusals
 pub mod Resumption
+pub mod Entries
+pub mod Ledger
+pub mod RunTable

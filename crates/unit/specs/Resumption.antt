@@ -84,30 +84,31 @@ unfoldable pub stores : (SessionRecord → Bool) → List Moment → ℕ
 stores p [] = 0
 stores p (m ∷ ms) = acceptedBy p (m .ask) (m .told .reply) + stores p ms
 
-hand-back : (x : Option SessionRecord) → inHand (handOf x) ≡ x
+pub hand-back : (x : Option SessionRecord) → inHand (handOf x) ≡ x
 unfolding inHand handOf emptyHand
 hand-back none = refl
 hand-back (some s) = refl
 
-none-in-hand : inHand emptyHand ≡ none
+pub none-in-hand : inHand emptyHand ≡ none
 unfolding inHand emptyHand
 none-in-hand = refl
 
-idle-hand : inHand (idleDoor .hand) ≡ none
+pub idle-hand : inHand (idleDoor .hand) ≡ none
 unfolding idleDoor
 idle-hand = none-in-hand
 
 module _ (p : SessionRecord → Bool) where
-  tally : List SessionRecord → ℕ
+  -- how many of a list pass
+  unfoldable pub tally : List SessionRecord → ℕ
   tally [] = 0
   tally (s ∷ l) = one (p s) + tally l
 
-  tally-snoc : (l : List SessionRecord) (s : SessionRecord) → tally (l ++ s ∷ []) ≡ tally l + one (p s)
+  pub tally-snoc : (l : List SessionRecord) (s : SessionRecord) → tally (l ++ s ∷ []) ≡ tally l + one (p s)
   unfolding tally
   tally-snoc [] s = omega arith
   tally-snoc (x ∷ l) s = omega (arith, tally-snoc l s)
 
-  tally-cut : (j : ℕ) (l : List SessionRecord) → j < length l → tally (cut j l) + one (p (getD l j pastEnd)) ≡ tally l
+  pub tally-cut : (j : ℕ) (l : List SessionRecord) → j < length l → tally (cut j l) + one (p (getD l j pastEnd)) ≡ tally l
   unfolding tally cut
   tally-cut j [] h = absurd (omega arith)
   tally-cut zero (x ∷ l) h = omega arith
@@ -156,7 +157,7 @@ module _ (p : SessionRecord → Bool) where
       go true n m h = omega arith
       go false n m h = omega arith
 
-  open-hand-less : (b : Bool) (h : InHand) → inHandThat p (inHand (openHand b h)) ≤ inHandThat p (inHand h)
+  pub open-hand-less : (b : Bool) (h : InHand) → inHandThat p (inHand (openHand b h)) ≤ inHandThat p (inHand h)
   open-hand-less true h = omega arith
   open-hand-less false h = rw none-in-hand (omega arith)
 

@@ -57,7 +57,7 @@ unfolding answerWith
 answer-fits free v aware mandatory p nonce s (plainFor n) = tt
 answer-fits free v aware mandatory p nonce s (with c) = take-or-keep free v (c .at)
 
-or-false : (x y : Bool) → x || y ≡ false → (x ≡ false) × (y ≡ false)
+pub or-false : (x y : Bool) → x || y ≡ false → (x ≡ false) × (y ≡ false)
 or-false true y e = absurd (false≢true (sym e))
 or-false false y e = (refl, e)
 

@@ -1,6 +1,6 @@
--- Lists: one element cut out, and numbers that do not stand in a list.
+-- Lists: one element cut out, and numbers that stand in a list or do not.
 use mathlib.Core.Path.{_≡_, refl, sym, ap, _∙_}
-use mathlib.Core.Logic.{_≢_}
+use mathlib.Core.Logic.{_≢_, _⊎_}
 use mathlib.Core.List.{List, [], _∷_, _++_, map}
 use Prim.Native.Nat.{ℕ, zero, suc, _+_, _-_, _≤_, _<_}
 use native.Mathlib.Omega.{arith}
@@ -33,6 +33,11 @@ module _ {X Y : Type 0} where
   pub map-snoc : (f : X → Y) (l : List X) (x : X) → map f (l ++ x ∷ []) ≡ map f l ++ f x ∷ []
   map-snoc f [] x = refl
   map-snoc f (y ∷ l) x = ap (λ (r : List Y). f y ∷ r) (map-snoc f l x)
+
+-- k is one of these
+abbrev pub In : ℕ → List ℕ → Type 0
+In k [] = ⊥
+In k (i ∷ is) = (k ≡ i) ⊎ In k is
 
 -- k is none of these
 abbrev pub NotIn : ℕ → List ℕ → Type 0
