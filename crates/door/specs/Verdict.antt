@@ -176,7 +176,7 @@ module _ (b : ℕ) (aware mandatory : Bool) (list : List ℕ) (resume : Bool) (n
   offered-alone = let e = offered-own offerOption [] mandatory 0 offerTaken offer-at-most in ap synOption e ∙ (offer-alone ∙ sym e)
 
 -- the option of an area has at most 40 bytes
-option-at-most : (s : List ℕ) → length (synOption s) ≤ 40
+pub option-at-most : (s : List ℕ) → length (synOption s) ≤ 40
 unfolding synOption partOf
 option-at-most s = go (finding s true) refl
   where
@@ -266,10 +266,10 @@ open-stored e role byte way t s = record { role-is = s .role-is; byte-is = s .by
 
 -- in Offered a SYN is judged, by the option that this end sent and the record in hand
 module _ (d : Door) (ack : Bool) (area : List ℕ) (phase : phaseOf (d .phase) ≡ offering) (fits : tooLong area ≡ false) where
-  abbrev verdict : Judged
+  abbrev pub verdict : Judged
   verdict = judge (d .mandatory) (inHand (d .hand)) (ownOption d) area
 
-  after-syn : receive d true ack area .door ≡ afterJudging d (phaseAfter ack) (synOption area) verdict
+  pub after-syn : receive d true ack area .door ≡ afterJudging d (phaseAfter ack) (synOption area) verdict
   unfolding receive turn received unless refusal
   after-syn = go ack
     where

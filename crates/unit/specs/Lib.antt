@@ -10,3 +10,9 @@ pub mod Resumption
 pub mod Entries
 pub mod Ledger
 pub mod RunTable
+pub mod History
+pub mod Results
+pub mod Openings
+pub mod Connections
+pub mod Stories
+pub mod Named
