@@ -28,7 +28,7 @@ lent (on d a) = lentOf a
 lent erase = []
 
 -- nothing kept, nothing changed
-keep-changes-nothing : (u : LinkUnit) (d : ℕ) (l : Door) → l ≡ positionAt u d .door → enact u d l keep ≡ u
+pub keep-changes-nothing : (u : LinkUnit) (d : ℕ) (l : Door) → l ≡ positionAt u d .door → enact u d l keep ≡ u
 unfolding enact ownersAfter rowsAfter positionAfter
 keep-changes-nothing u d l e =
     ap (λ (k : Door). after-keeping k) e ∙ ap (λ (doors : List Position). record { owners = u .owners; rows = u .rows; doors = doors }) (set-getD (u .doors) d pastPosition)

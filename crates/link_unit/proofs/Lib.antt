@@ -1,0 +1,2 @@
+-- Laws of the unit's calls in code.
+pub mod Stepping

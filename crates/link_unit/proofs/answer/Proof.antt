@@ -1,0 +1,59 @@
+-- `link_unit::answer` meets its contract.
+use mathlib.Core.Path.{ap, _∙_}
+use native.Mathlib.Omega.{arith}
+use denote.Ref.{now}
+use Rattle.eno.specs.declared.SessionRecord.{SessionRecord}
+use Rattle.door.specs.Answers.{effectOf}
+use Rattle.pool.specs.Carried.{enactFit}
+use Rattle.door.specs.Calls.{answer, outcome}
+use Rattle.door.specs.Numbered.{lentOf}
+use Rattle.unit.specs.Numbers.{doorsN}
+use Rattle.link_unit.proofs.Stepping.{step-past, step-carried}
+use borrow.Author.Needs.{needs}
+use Rattle.link_unit.proofs.answer.Statement.{statement}
+use Rattle.link_unit.proofs.answer.Tie as tie
+use Rattle.link_unit.proofs.answer.Reads as reads
+use Rattle.link_unit.proofs.answer.Lts as lts
+use Rattle.door.proofs.no_session.Reads as no-session-reads
+use Rattle.opening.proofs.answer.Reads as answer-reads
+use Rattle.pool.proofs.enacted.Reads as enacted-reads
+use Rattle.pool.proofs.view_of.Reads as view-of-reads
+
+returns : tie.Need-returns
+unfolding doorsN lentOf
+returns c = let a = c .before .before .before .before .before .args in step-past (a .unit) (a .door) (answer (now (a .area)) (a .aware) (a .mandatory) (now (a .teps)) (now (a .nonce)) (now (a .out))) (omega arith)
+
+view-of-requires : tie.Need-view-of-requires
+view-of-requires c κs = search needs
+
+answer-requires : tie.Need-answer-requires
+answer-requires c κs = search needs
+
+no-session-requires : tie.Need-no-session-requires
+no-session-requires c κs = search needs
+
+enacted-requires : tie.Need-enacted-requires
+enacted-requires c κs = search needs
+
+same-length : tie.Need-same-length
+same-length c = search needs
+
+returns-2 : tie.Need-returns-2
+unfolding doorsN outcome
+returns-2 c =
+    let a = c .before .before .before .before .before .before .before .before .before .before .before .before .args in
+    let told = c .before .before .before .before .answer in
+    step-carried (a .unit) (a .door) (omega arith) (answer (now (a .area)) (a .aware) (a .mandatory) (now (a .teps)) (now (a .nonce)) (now (a .out))) _ _ _ _ _ _ (c .before .before .before .before .before .before .view-of .ensures) (told .ensures)
+    (c .enacted .ensures ∙ ap (λ (zeros : SessionRecord). enactFit (a .unit) (a .door) (told .result .door) (effectOf (told .result .change) zeros)) (c .before .no-session .ensures))
+
+pub answer-spec : {M : Type 1} → statement M
+answer-spec =
+    tie.close
+    (tie.spec
+    returns
+    view-of-requires
+    answer-requires
+    no-session-requires
+    enacted-requires
+    same-length
+    returns-2)

@@ -1,0 +1,49 @@
+-- `link_unit::receive` meets its contract.
+use mathlib.Core.Path.{sym}
+use native.Mathlib.Omega.{arith}
+use denote.Ref.{now}
+use Rattle.unit.specs.Unit.{view}
+use Rattle.door.specs.Calls.{receive, outcome}
+use Rattle.door.specs.Numbered.{lentOf}
+use Rattle.unit.specs.Numbers.{doorsN}
+use Rattle.link_unit.proofs.Stepping.{step-past, step-carried, view-of}
+use borrow.Author.Needs.{needs}
+use Rattle.link_unit.proofs.receive.Statement.{statement}
+use Rattle.link_unit.proofs.receive.Tie as tie
+use Rattle.link_unit.proofs.receive.Reads as reads
+use Rattle.link_unit.proofs.receive.Lts as lts
+use Rattle.pool.proofs.with_door.Reads as with-door-reads
+use Rattle.segments.proofs.receive.Reads as receive-reads
+
+returns : tie.Need-returns
+unfolding doorsN lentOf
+returns c = let a = c .before .before .args in step-past (a .t1) (a .door) (receive (a .syn) (a .ack) (now (a .area))) (omega arith)
+
+mul-position : tie.Need-mul-position
+mul-position c = search needs
+
+element-copy-out-position : tie.Need-element-copy-out-position
+element-copy-out-position c = search needs
+
+receive-requires : tie.Need-receive-requires
+receive-requires c κs = search needs
+
+with-door-requires : tie.Need-with-door-requires
+with-door-requires c κs = search needs
+
+returns-2 : tie.Need-returns-2
+unfolding doorsN outcome
+returns-2 c =
+    let a = c .before .before .before .before .before .args in
+    step-carried (a .t1) (a .door) (omega arith) (receive (a .syn) (a .ack) (now (a .area))) _ _ _ _ (view (a .t1) (a .door)) _ (sym (view-of (a .t1) (a .door) (omega arith))) (c .before .receive .ensures) (c .with-door .ensures)
+
+pub receive-spec : {M : Type 1} → statement M
+receive-spec =
+    tie.close
+    (tie.spec
+    returns
+    mul-position
+    element-copy-out-position
+    receive-requires
+    with-door-requires
+    returns-2)

@@ -1,0 +1,61 @@
+-- `link_unit::store` meets its contract.
+use mathlib.Core.Path.{_≡_, sym, ap, ap₂, _∙_}
+use mathlib.Core.Bool.{Bool}
+use native.Mathlib.Omega.{arith}
+use denote.Ref.{now}
+use lib.Dec.{ltb}
+use lib.ListN.{length}
+use Rattle.door.specs.Door.{seenOf}
+use Rattle.door.specs.Calls.{store, outcome}
+use Rattle.door.specs.Numbered.{lentOf}
+use Rattle.unit.specs.Numbers.{doorsN, rowsN}
+use Rattle.unit.specs.Unit.{isFree}
+use Rattle.link_unit.proofs.Stepping.{step-past, step-carried}
+use borrow.Author.Needs.{needs}
+use Rattle.link_unit.proofs.store.Statement.{statement}
+use Rattle.link_unit.proofs.store.Tie as tie
+use Rattle.link_unit.proofs.store.Reads as reads
+use Rattle.link_unit.proofs.store.Lts as lts
+use Rattle.pool.proofs.enacted.Reads as enacted-reads
+use Rattle.pool.proofs.first_free.Reads as first-free-reads
+use Rattle.pool.proofs.view_of.Reads as view-of-reads
+use Rattle.records.proofs.store.Reads as store-reads
+
+owners-size : (c : tie.Start) → length (c .args .t1 .owners) ≡ rowsN
+unfolding rowsN
+owners-size c = search needs
+
+returns : tie.Need-returns
+unfolding doorsN lentOf
+returns c = let a = c .before .before .before .args in step-past (a .t1) (a .door) (store (a .tep) (a .role) (now (a .identifier)) (now (a .secret))) (omega arith)
+
+view-of-requires : tie.Need-view-of-requires
+view-of-requires c κs = search needs
+
+first-free-requires : tie.Need-first-free-requires
+first-free-requires c κs = search needs
+
+store-requires : tie.Need-store-requires
+store-requires c κs = search needs
+
+enacted-requires : tie.Need-enacted-requires
+enacted-requires c κs = search needs
+
+returns-2 : tie.Need-returns-2
+unfolding doorsN rowsN outcome
+returns-2 c =
+    let a = c .before .before .before .before .before .before .before .before .before .before .before .args in
+    let told = c .before .before .store .ensures in
+    let is-free : ltb (c .before .before .before .first-free .result) rowsN ≡ isFree (a .t1) = ap₂ ltb (c .before .before .before .first-free .ensures) (sym (owners-size (c .before .before .before .before .before .before .before .before .before .before .before))) in
+    step-carried (a .t1) (a .door) (omega arith) (store (a .tep) (a .role) (now (a .identifier)) (now (a .secret))) _ _ _ _ _ _ (c .before .before .before .before .before .before .before .view-of .ensures) (told .outcome ∙ ap (λ (free : Bool). outcome free (seenOf (c .before .before .before .before .before .before .before .view-of .result)) (store (a .tep) (a .role) (now (a .identifier)) (now (a .secret)))) is-free) (c .enacted .ensures)
+
+pub store-spec : {M : Type 1} → statement M
+store-spec =
+    tie.close
+    (tie.spec
+    returns
+    view-of-requires
+    first-free-requires
+    store-requires
+    enacted-requires
+    returns-2)

@@ -1,0 +1,2 @@
+-- The pool in code: definitions that its functions cite.
+pub mod Carried
