@@ -1,5 +1,5 @@
 -- Runs of the unit, each from the empty one: one table, one claim about all rows. No unit whose answers are constant or invented passes it.
-use Prim.Native.Nat.{ℕ}
+use Prim.Native.Nat.{ℕ, _-_}
 use mathlib.Core.Path.{_≡_, refl}
 use mathlib.Core.List.{List, [], _∷_, _++_, map}
 use mathlib.Core.Bool.{Bool, true, false}
@@ -103,6 +103,13 @@ k2A = 0x45 ∷ 5 ∷ 0x21 ∷ 0x23 ∷ 0x24 ∷ []
 abbrev k2B : List ℕ
 k2B = 0x45 ∷ 5 ∷ 1 ∷ 0x23 ∷ 0x21 ∷ []
 
+-- doors 23 and 24: the last, and one that is not ours
+abbrev lastDoor : ℕ
+lastDoor = doorsN - 1
+
+abbrev noDoor : ℕ
+noDoor = doorsN
+
 -- TEPs 21 and 23 offered, resuming or not
 abbrev offerK1 : Bool → ℕ → Ask
 offerK1 resume n = offer 0 false false (0x21 ∷ 0x23 ∷ []) resume [] (room n)
@@ -172,20 +179,20 @@ runs =
     -- store, count, forget, count
     ∷ run (on 9 count ∷ on 9 storeR ∷ on 9 count ∷ on 9 storeR ∷ on 9 forgetR ∷ on 9 count ∷ on 9 forgetR ∷ []) (holds 0 ∷ done ∷ holds 1 ∷ refused 7 ∷ done ∷ holds 0 ∷ refused 16 ∷ []) []
     -- doors 23 and 24
-    ∷ run (on 23 storeR ∷ on 23 count ∷ on 23 (offerK1 false 4) ∷ on 23 close ∷ []) (done ∷ holds 1 ∷ written 4 ∷ done ∷ []) []
+    ∷ run (on lastDoor storeR ∷ on lastDoor count ∷ on lastDoor (offerK1 false 4) ∷ on lastDoor close ∷ []) (done ∷ holds 1 ∷ written 4 ∷ done ∷ []) []
     ∷ run
-    (on 24 (offerK1 false 4)
-    ∷ on 24 answerK1
-    ∷ on 24 (synAck k1B)
-    ∷ on 24 (resend (room 4))
-    ∷ on 24 (result (room 8))
-    ∷ on 24 close
-    ∷ on 24 storeR
-    ∷ on 24 forgetR
-    ∷ on 24 count
+    (on noDoor (offerK1 false 4)
+    ∷ on noDoor answerK1
+    ∷ on noDoor (synAck k1B)
+    ∷ on noDoor (resend (room 4))
+    ∷ on noDoor (result (room 8))
+    ∷ on noDoor close
+    ∷ on noDoor storeR
+    ∷ on noDoor forgetR
+    ∷ on noDoor count
     ∷ [])
     (replicate 9 (refused 1)) []
-    ∷ run (on 24 (offerK1 false 4) ∷ []) (refused 1 ∷ []) (room 4)
+    ∷ run (on noDoor (offerK1 false 4) ∷ []) (refused 1 ∷ []) (room 4)
     -- the fifth record
     ∷ run (on 2 (storeNth 1) ∷ on 2 (storeNth 2) ∷ on 2 (storeNth 3) ∷ on 2 (storeNth 4) ∷ on 2 (storeNth 5) ∷ on 2 count ∷ on 1 (storeNth 5) ∷ on 1 count ∷ [])
     (done ∷ done ∷ done ∷ done ∷ refused 6 ∷ holds 4 ∷ done ∷ holds 1 ∷ []) []

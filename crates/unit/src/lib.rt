@@ -1,5 +1,6 @@
 // The unit: all doors and one pool of session records. The definitions and theorems are in specs/.
 use door::Door;
+use door::EACH;
 use eno::SessionRecord;
 
 pub const DOORS: usize = 24;
@@ -10,7 +11,7 @@ pub const ROWS: usize = 96;
 pub struct Position {
     pub door: Door,
     pub count: u8,
-    pub rows: [u8; 4],
+    pub rows: [u8; EACH],
 }
 
 // Each row of the pool has an owner: 0 where it is free, d + 1 where it is door d's.

@@ -6,7 +6,7 @@ use Rattle.door.specs.Numbers.{eachN}
 use Rattle.door.specs.declared.Door.{Door}
 use Rattle.unit.specs.Numbers.{doorsN, rowsN}
 use Rattle.unit.specs.Unit.{idlePosition, emptyUnit}
-use Rattle.unit.specs.declared.LinkUnit.{LinkUnit}
+use Rattle.pool.proofs.Carrying.{unitOf, positionOf}
 use borrow.Author.Needs.{needs}
 use Rattle.pool.proofs.empty_unit.Statement.{statement}
 use Rattle.pool.proofs.empty_unit.Tie as tie
@@ -21,16 +21,12 @@ no-session-requires c κs = search needs
 idle-door-requires : tie.Need-idle-door-requires
 idle-door-requires c κs = search needs
 
--- the unit made of a row and a door
-abbrev made : SessionRecord → Door → LinkUnit
-made row idle = record { owners = replicate 96 0; rows = replicate 96 row; doors = replicate 24 (record { door = idle; count = 0; rows = replicate 4 0 }) }
-
 returns : tie.Need-returns
 unfolding emptyUnit idlePosition rowsN doorsN eachN
 returns c =
     let s = c .before .no-session .ensures in
     let i = c .idle-door .ensures in
-    ap₂ (λ (row : SessionRecord) (idle : Door). made row idle) s i
+    ap₂ (λ (row : SessionRecord) (idle : Door). unitOf (replicate rowsN 0) (replicate rowsN row) (replicate doorsN (positionOf idle 0 (replicate eachN 0)))) s i
 
 pub empty-unit-spec : {M : Type 1} → statement M
 empty-unit-spec = tie.close (tie.spec no-session-requires idle-door-requires returns)

@@ -51,7 +51,7 @@ count-of-requires c κs = search needs
 
 loop-holds : tie.Need-loop-holds Inv-loop μ-loop
 unfolding eachN
-loop-holds c = (omega arith, ap (λ (s : SessionRecord). replicate 4 s) (c .before .before .before .no-session .ensures) ∙ gathered-none _ _)
+loop-holds c = (omega arith, ap (λ (s : SessionRecord). replicate eachN s) (c .before .before .before .no-session .ensures) ∙ gathered-none _ _)
 
 element-copy-out-wide : tie.Need-element-copy-out-wide Inv-loop μ-loop
 unfolding eachN
@@ -68,7 +68,7 @@ element-copy-out-session c = search needs
 
 mul-held : tie.Need-mul-held Inv-loop μ-loop
 unfolding eachN
-mul-held c = let h : c .before .before .before .before .before .loop .i < 4 = omega (arith, c .before .before .before .before .before .before .count-of .ensures .0) in search needs
+mul-held c = let h : c .before .before .before .before .before .loop .i < eachN = omega (arith, c .before .before .before .before .before .before .count-of .ensures .0) in search needs
 
 array-set-from-held : tie.Need-array-set-from-held Inv-loop μ-loop
 unfolding eachN
