@@ -55,8 +55,8 @@ pub fn offer(
             reply: Reply::Refused(Refusal::NoDoor),
         };
     }
-    let view = pool::view_of(unit, door);
-    let told = opening::offer(view, b, aware, mandatory, teps, resume, nonce, out);
+    let active = pool::view_of(unit, door);
+    let told = opening::offer(active, b, aware, mandatory, teps, resume, nonce, out);
     let zeros = door::no_session();
     let change = told.change;
     let after = pool::enacted(unit, door, told.door, change, zeros);
@@ -83,8 +83,8 @@ pub fn answer(
             reply: Reply::Refused(Refusal::NoDoor),
         };
     }
-    let view = pool::view_of(unit, door);
-    let told = opening::answer(view, area, aware, mandatory, teps, nonce, out);
+    let passive = pool::view_of(unit, door);
+    let told = opening::answer(passive, area, aware, mandatory, teps, nonce, out);
     let zeros = door::no_session();
     let change = told.change;
     let after = pool::enacted(unit, door, told.door, change, zeros);
@@ -102,8 +102,8 @@ pub fn receive(unit: LinkUnit, door: usize, syn: bool, ack: bool, area: &[u8]) -
             reply: Reply::Refused(Refusal::NoDoor),
         };
     }
-    let position = unit.doors[door];
-    let told = segments::receive(position.door, syn, ack, area);
+    let receiver = unit.doors[door];
+    let told = segments::receive(receiver.door, syn, ack, area);
     let after = pool::with_door(unit, door, told.door);
     let reply = told.reply;
     Replied { unit: after, reply }
@@ -119,8 +119,8 @@ pub fn resend(unit: LinkUnit, door: usize, out: &mut [u8]) -> Replied
             reply: Reply::Refused(Refusal::NoDoor),
         };
     }
-    let position = unit.doors[door];
-    let reply = segments::resend(position.door, out);
+    let sender = unit.doors[door];
+    let reply = segments::resend(sender.door, out);
     Replied { unit, reply }
 }
 
@@ -156,9 +156,9 @@ pub fn close(unit: LinkUnit, door: usize) -> Replied
             reply: Reply::Refused(Refusal::NoDoor),
         };
     }
-    let told = segments::close();
-    let after = pool::with_door(unit, door, told.door);
-    let reply = told.reply;
+    let closed = segments::close();
+    let after = pool::with_door(unit, door, closed.door);
+    let reply = closed.reply;
     Replied { unit: after, reply }
 }
 
@@ -220,9 +220,9 @@ pub fn count(unit: LinkUnit, door: usize) -> Replied
             reply: Reply::Refused(Refusal::NoDoor),
         };
     }
-    let view = pool::view_of(unit, door);
-    let reply = records::count(view);
-    Replied { unit, reply }
+    let holder = pool::view_of(unit, door);
+    let held = records::count(holder);
+    Replied { unit, reply: held }
 }
 
 // Empties the whole unit.

@@ -19,11 +19,11 @@ returns : tie.Need-returns
 unfolding doorsN lentOf
 returns c = let a = c .before .before .args in step-past (a .t1) (a .door) (receive (a .syn) (a .ack) (now (a .area))) (omega arith)
 
-mul-position : tie.Need-mul-position
-mul-position c = search needs
+mul-receiver : tie.Need-mul-receiver
+mul-receiver c = search needs
 
-element-copy-out-position : tie.Need-element-copy-out-position
-element-copy-out-position c = search needs
+element-copy-out-receiver : tie.Need-element-copy-out-receiver
+element-copy-out-receiver c = search needs
 
 receive-requires : tie.Need-receive-requires
 receive-requires c κs = search needs
@@ -42,8 +42,8 @@ receive-spec =
     tie.close
     (tie.spec
     returns
-    mul-position
-    element-copy-out-position
+    mul-receiver
+    element-copy-out-receiver
     receive-requires
     with-door-requires
     returns-2)

@@ -18,11 +18,11 @@ returns : tie.Need-returns
 unfolding doorsN lentOf
 returns c = let a = c .before .before .args in step-past (a .t1) (a .door) (resend (now (a .out))) (omega arith)
 
-mul-position : tie.Need-mul-position
-mul-position c = search needs
+mul-sender : tie.Need-mul-sender
+mul-sender c = search needs
 
-element-copy-out-position : tie.Need-element-copy-out-position
-element-copy-out-position c = search needs
+element-copy-out-sender : tie.Need-element-copy-out-sender
+element-copy-out-sender c = search needs
 
 resend-requires : tie.Need-resend-requires
 resend-requires c κs = search needs
@@ -39,4 +39,4 @@ returns-2 c =
 pub resend-spec : {M : Type 1} → statement M
 resend-spec =
     tie.close
-    (tie.spec returns mul-position element-copy-out-position resend-requires same-length returns-2)
+    (tie.spec returns mul-sender element-copy-out-sender resend-requires same-length returns-2)
