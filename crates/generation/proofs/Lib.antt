@@ -1,0 +1,3 @@
+-- Laws of generations that the proofs of the functions cite.
+pub mod Ways
+pub mod Lent

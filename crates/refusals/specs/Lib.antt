@@ -1,0 +1,3 @@
+-- Refusals by number: the first row that holds is the least number that applies.
+pub mod Rows
+pub mod RowLaws
