@@ -21,7 +21,7 @@ pub data Ask : Type 0 where
   writePlaintext : (fin urg : Bool) (urgent : ℕ) (payload lent : List ℕ) → Ask
   readPlaintext : (bytes : List ℕ) → Ask
 
--- the ciphertext length of a header, its third and last field
+-- the ciphertext length of a header: its second and third byte
 unfoldable pub lengthIn : List ℕ → ℕ
 lengthIn s = numberAt 2 s 1
 
