@@ -11,3 +11,4 @@ pub mod ContinuingLaws
 pub mod Numbered
 pub mod Refusals
 pub mod RoundTrip
+pub mod WorkedExamples

@@ -1,4 +1,4 @@
--- What the writers write is read back to the same values, with any bytes appended, given a shared cipher. Assumes nothing.
+-- What the writers write is read back to the same values, with any bytes appended, given a common cipher. Assumes nothing.
 use Prim.Native.Nat.{ℕ, _+_, _*_, _≤_, _<_}
 use mathlib.Core.Path.{_≡_, refl, sym, _∙_, ap}
 use mathlib.Core.List.{List, [], _∷_, _++_}
