@@ -1,0 +1,67 @@
+//! What a run met, and the least that it must have met.
+
+use std::collections::BTreeMap;
+
+use super::calls::Answer;
+
+/// How often each thing must occur.
+pub const LEAST: u64 = 100;
+
+#[derive(Default)]
+pub struct Counts(BTreeMap<String, u64>);
+
+impl Counts {
+    pub fn meet(&mut self, name: &str) {
+        self.add(name, 1);
+    }
+
+    pub fn add(&mut self, name: &str, times: u64) {
+        match self.0.get_mut(name) {
+            Some(count) => *count += times,
+            None => {
+                self.0.insert(name.to_string(), times);
+            }
+        }
+    }
+
+    pub fn refusal(&mut self, number: u8) {
+        self.meet(&format!("refusal {number:2}"));
+    }
+
+    pub fn answer<T>(&mut self, answer: &Answer<T>) {
+        match answer {
+            Ok(_) => self.meet("success"),
+            Err(number) => self.refusal(*number),
+        }
+    }
+
+    pub fn reason(&mut self, number: u8) {
+        self.meet(&format!("reason {number}"));
+    }
+
+    pub fn of(&self, name: &str) -> u64 {
+        self.0.get(name).copied().unwrap_or(0)
+    }
+
+    pub fn print(&self, title: &str) {
+        println!("{title}");
+        for (name, count) in &self.0 {
+            println!("  {name:36} {count:9}");
+        }
+    }
+
+    /// Fails if one of the named things occurred too seldom.
+    pub fn demand<'a>(&self, names: impl IntoIterator<Item = &'a str>) {
+        let seldom = |name: &&str| self.of(name) < LEAST;
+        let missing: Vec<&str> = names.into_iter().filter(seldom).collect();
+        assert!(
+            missing.is_empty(),
+            "met fewer than {LEAST} times: {missing:?}"
+        );
+    }
+
+    pub fn demand_refusals(&self, numbers: &[u8]) {
+        let names: Vec<String> = numbers.iter().map(|n| format!("refusal {n:2}")).collect();
+        self.demand(names.iter().map(String::as_str));
+    }
+}
