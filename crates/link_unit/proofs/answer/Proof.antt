@@ -1,14 +1,10 @@
 -- `link_unit::answer` meets its contract.
-use mathlib.Core.Path.{ap, _∙_}
 use native.Mathlib.Omega.{arith}
 use denote.Ref.{now}
-use Rattle.eno.specs.declared.SessionRecord.{SessionRecord}
-use Rattle.door.specs.Answers.{effectOf}
-use Rattle.pool.specs.Carried.{enactFit}
 use Rattle.door.specs.Calls.{answer, outcome}
 use Rattle.door.specs.Numbered.{lentOf}
 use Rattle.unit.specs.Numbers.{doorsN}
-use Rattle.link_unit.proofs.Stepping.{step-past, step-carried}
+use Rattle.link_unit.proofs.Stepping.{with-zeros, step-past, step-carried}
 use borrow.Author.Needs.{needs}
 use Rattle.link_unit.proofs.answer.Statement.{statement}
 use Rattle.link_unit.proofs.answer.Tie as tie
@@ -44,7 +40,7 @@ returns-2 c =
     let a = c .before .before .before .before .before .before .before .before .before .before .before .before .args in
     let told = c .before .before .before .before .answer in
     step-carried (a .unit) (a .door) (omega arith) (answer (now (a .area)) (a .aware) (a .mandatory) (now (a .teps)) (now (a .nonce)) (now (a .out))) _ _ _ _ _ _ (c .before .before .before .before .before .before .view-of .ensures) (told .ensures)
-    (c .enacted .ensures ∙ ap (λ (zeros : SessionRecord). enactFit (a .unit) (a .door) (told .result .door) (effectOf (told .result .change) zeros)) (c .before .no-session .ensures))
+    (with-zeros (a .unit) (a .door) (told .result .door) (told .result .change) _ _ (c .before .no-session .ensures) (c .enacted .ensures))
 
 pub answer-spec : {M : Type 1} → statement M
 answer-spec =

@@ -1,14 +1,10 @@
 -- `link_unit::forget` meets its contract.
-use mathlib.Core.Path.{ap, _∙_}
 use native.Mathlib.Omega.{arith}
 use denote.Ref.{now}
-use Rattle.eno.specs.declared.SessionRecord.{SessionRecord}
-use Rattle.door.specs.Answers.{effectOf}
-use Rattle.pool.specs.Carried.{enactFit}
 use Rattle.door.specs.Calls.{forget, outcome}
 use Rattle.door.specs.Numbered.{lentOf}
 use Rattle.unit.specs.Numbers.{doorsN}
-use Rattle.link_unit.proofs.Stepping.{step-past, step-carried}
+use Rattle.link_unit.proofs.Stepping.{with-zeros, step-past, step-carried}
 use borrow.Author.Needs.{needs}
 use Rattle.link_unit.proofs.forget.Statement.{statement}
 use Rattle.link_unit.proofs.forget.Tie as tie
@@ -41,7 +37,7 @@ returns-2 c =
     let a = c .before .before .before .before .before .before .before .args in
     let told = c .before .before .before .forget in
     step-carried (a .unit) (a .door) (omega arith) (forget (a .tep) (now (a .identifier))) _ _ _ _ _ _ (c .before .before .before .before .view-of .ensures) (told .ensures)
-    (c .enacted .ensures ∙ ap (λ (zeros : SessionRecord). enactFit (a .unit) (a .door) (c .before .before .before .before .view-of .result .door) (effectOf (told .result .change) zeros)) (c .before .no-session .ensures))
+    (with-zeros (a .unit) (a .door) (c .before .before .before .before .view-of .result .door) (told .result .change) _ _ (c .before .no-session .ensures) (c .enacted .ensures))
 
 pub forget-spec : {M : Type 1} → statement M
 forget-spec =

@@ -1,16 +1,14 @@
 -- `link_unit::store` meets its contract.
-use mathlib.Core.Path.{_≡_, sym, ap, ap₂, _∙_}
-use mathlib.Core.Bool.{Bool}
+use mathlib.Core.Path.{_≡_, sym, ap₂}
 use native.Mathlib.Omega.{arith}
 use denote.Ref.{now}
 use lib.Dec.{ltb}
 use lib.ListN.{length}
-use Rattle.door.specs.Door.{seenOf}
 use Rattle.door.specs.Calls.{store, outcome}
 use Rattle.door.specs.Numbered.{lentOf}
 use Rattle.unit.specs.Numbers.{doorsN, rowsN}
 use Rattle.unit.specs.Unit.{isFree}
-use Rattle.link_unit.proofs.Stepping.{step-past, step-carried}
+use Rattle.link_unit.proofs.Stepping.{step-past, step-told-free}
 use borrow.Author.Needs.{needs}
 use Rattle.link_unit.proofs.store.Statement.{statement}
 use Rattle.link_unit.proofs.store.Tie as tie
@@ -47,7 +45,7 @@ returns-2 c =
     let a = c .before .before .before .before .before .before .before .before .before .before .before .args in
     let told = c .before .before .store .ensures in
     let is-free : ltb (c .before .before .before .first-free .result) rowsN ≡ isFree (a .t1) = ap₂ ltb (c .before .before .before .first-free .ensures) (sym (owners-size (c .before .before .before .before .before .before .before .before .before .before .before))) in
-    step-carried (a .t1) (a .door) (omega arith) (store (a .tep) (a .role) (now (a .identifier)) (now (a .secret))) _ _ _ _ _ _ (c .before .before .before .before .before .before .before .view-of .ensures) (told .outcome ∙ ap (λ (free : Bool). outcome free (seenOf (c .before .before .before .before .before .before .before .view-of .result)) (store (a .tep) (a .role) (now (a .identifier)) (now (a .secret)))) is-free) (c .enacted .ensures)
+    step-told-free (a .t1) (a .door) (omega arith) (store (a .tep) (a .role) (now (a .identifier)) (now (a .secret))) _ _ _ _ _ _ _ is-free (c .before .before .before .before .before .before .before .view-of .ensures) (told .outcome) (c .enacted .ensures)
 
 pub store-spec : {M : Type 1} → statement M
 store-spec =
