@@ -11,6 +11,7 @@ ghost use Rattle.door.specs.Answer.{plainDoor};
 pub const EACH: usize = 4;
 
 // A door's own data, in plain numbers, so that a host can hold it.
+#[repr(C)]
 pub struct Door {
     // 0 Idle, 1 Offered, 2 Crossed, 3 Answered, 4 Open, 5 Plain; any other reads as Idle.
     pub phase: u8,

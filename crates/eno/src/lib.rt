@@ -64,6 +64,7 @@ impl Tep {
 }
 
 // A session that may be resumed.
+#[repr(C)]
 pub struct SessionRecord {
     pub tep: u8,
     // 0 where this end was host A, else host B.
@@ -73,6 +74,7 @@ pub struct SessionRecord {
 }
 
 // The session that a connection proposes to resume, if any ("the record in hand").
+#[repr(C)]
 pub struct InHand {
     pub held: bool,
     pub session: SessionRecord,

@@ -8,6 +8,7 @@ pub const DOORS: usize = 24;
 pub const ROWS: usize = 96;
 
 // A door in the unit: its own data, and the numbers of the rows that it holds, oldest first.
+#[repr(C)]
 pub struct Position {
     pub door: Door,
     pub count: u8,
@@ -15,6 +16,7 @@ pub struct Position {
 }
 
 // Each row of the pool has an owner: 0 where it is free, d + 1 where it is door d's.
+#[repr(C)]
 pub struct LinkUnit {
     pub owners: [u8; ROWS],
     pub rows: [SessionRecord; ROWS],

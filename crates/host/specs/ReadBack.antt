@@ -1,0 +1,81 @@
+-- The plain numbers lose nothing: a reply is read back from them and the secret beside them.
+use Prim.Native.Nat.{ℕ, zero, suc}
+use mathlib.Core.Path.{_≡_, refl, sym, _∙_, ap, ap₂}
+use mathlib.Core.List.{List}
+use Rattle.eno.specs.Area.{Status, saysFound, saysNone, saysUnreadable, saysRefused}
+use Rattle.eno.specs.Judge.{Way, fresh, resumed}
+use Rattle.door.specs.Door.{Phase, idle, offering, crossed, answering, opened, unencrypted, phaseOf, phaseNumber}
+use Rattle.door.specs.Outcome.{Reply, refused, written, plain, nowIn, encrypted, done, holds}
+use Rattle.door.specs.Answers.{secretBeside}
+use Rattle.host.specs.Replies.{wayNumber, numbersOf, statusNumbers}
+use Rattle.host.specs.declared.ReplyNumbers.{ReplyNumbers}
+
+abbrev wayOf : ℕ → Way
+wayOf zero = fresh
+wayOf (suc n) = resumed
+
+way-back : (w : Way) → wayOf (wayNumber w) ≡ w
+way-back fresh = refl
+way-back resumed = refl
+
+phase-back : (p : Phase) → phaseOf (phaseNumber p) ≡ p
+unfolding phaseOf phaseNumber
+phase-back idle = refl
+phase-back offering = refl
+phase-back crossed = refl
+phase-back answering = refl
+phase-back opened = refl
+phase-back unencrypted = refl
+
+-- the reply of a kind
+abbrev readAs : (kind : ℕ) → ReplyNumbers → (secret : List ℕ) → Reply
+readAs zero r secret = refused (r .number)
+readAs (suc zero) r secret = written (r .number)
+readAs (suc (suc zero)) r secret = plain (r .number)
+readAs (suc (suc (suc zero))) r secret = nowIn (phaseOf (r .number))
+readAs (suc (suc (suc (suc zero)))) r secret = encrypted (r .role) (r .tep) (wayOf (r .resumed)) (r .number) secret
+readAs (suc (suc (suc (suc (suc zero))))) r secret = done
+readAs (suc (suc (suc (suc (suc (suc k)))))) r secret = holds (r .number)
+
+abbrev readBack : ReplyNumbers → List ℕ → Reply
+readBack r secret = readAs (r .kind) r secret
+
+read-back : (x : Reply) → readBack (numbersOf x) (secretBeside x) ≡ x
+unfolding numbersOf
+read-back (refused n) = refl
+read-back (written n) = refl
+read-back (plain n) = refl
+read-back (nowIn p) = ap nowIn (phase-back p)
+read-back (encrypted role byte way n secret) = ap (λ (w : Way). encrypted role byte w n secret) (way-back way)
+read-back done = refl
+read-back (holds n) = refl
+
+-- two replies with the same numbers and the same secret are the same
+pub numbers-tell : (x y : Reply) → numbersOf x ≡ numbersOf y → secretBeside x ≡ secretBeside y → x ≡ y
+numbers-tell x y e f = sym (read-back x) ∙ (ap₂ readBack e f ∙ read-back y)
+
+-- the finder's word is read back too
+abbrev wordAs : (kind number : ℕ) → Status
+wordAs zero n = saysRefused n
+wordAs (suc zero) n = saysNone
+wordAs (suc (suc zero)) n = saysNone
+wordAs (suc (suc (suc zero))) n = saysNone
+wordAs (suc (suc (suc (suc zero)))) n = saysNone
+wordAs (suc (suc (suc (suc (suc zero))))) n = saysNone
+wordAs (suc (suc (suc (suc (suc (suc zero)))))) n = saysNone
+wordAs (suc (suc (suc (suc (suc (suc (suc zero))))))) n = saysFound
+wordAs (suc (suc (suc (suc (suc (suc (suc (suc zero)))))))) n = saysNone
+wordAs (suc (suc (suc (suc (suc (suc (suc (suc (suc k))))))))) n = saysUnreadable
+
+abbrev wordBack : ReplyNumbers → Status
+wordBack r = wordAs (r .kind) (r .number)
+
+word-back : (x : Status) → wordBack (statusNumbers x) ≡ x
+unfolding statusNumbers
+word-back saysFound = refl
+word-back saysNone = refl
+word-back saysUnreadable = refl
+word-back (saysRefused n) = refl
+
+pub status-tells : (x y : Status) → statusNumbers x ≡ statusNumbers y → x ≡ y
+status-tells x y e = sym (word-back x) ∙ (ap wordBack e ∙ word-back y)

@@ -1,0 +1,271 @@
+/* The link unit for hosts in C: TCP-ENO options (RFC 8547), resumption of tcpcrypt sessions (RFC 8548), 24 doors, one pool of 96 session records.
+ *
+ * Link with libhost.a, which `rt staticlib host` writes to target/staticlib (x86-64, System V calling convention).
+ *
+ * THE UNIT is plain data that the host owns. There is no heap, no global, no lock and no thread in the library: it keeps nothing between two calls, and
+ * a unit may be copied, moved and kept anywhere. Each call takes a unit by value and gives the unit afterwards back; what was passed in is not changed.
+ * The functions `door_link_unit_..` below take a pointer and put the later unit in its place. Two threads must not use one unit at the same time.
+ * A unit holds secrets: erase it (door_link_erase) and do not write it to a log. A record that is dropped, forgotten or erased is zeros in the unit
+ * afterwards; copies that a compiler leaves on the stack, and older units that the host still holds, are not overwritten. A call needs up to about
+ * 70 KB of stack. Make a unit with door_link_new and change it by the calls alone: its
+ * bytes are the library's, and some of them must be 0 or 1 (they are C's `bool`), so bytes of the host's own making are undefined behaviour.
+ *
+ * BYTES go in as a pointer and a length. The library reads input bytes and writes lent buffers during the call alone and keeps no pointer. Three rules, as
+ * for memcpy: a pointer is never null, also where its length is 0 (the `door_link_unit_..` functions take null with length 0); all `length` bytes are
+ * readable, and those of a lent buffer writable; a lent buffer overlaps no input.
+ *
+ * A REFUSAL (kind 0) leaves everything as found: the unit afterwards is the same unit and not one byte of the lent buffer is written. Where several numbers
+ * apply, the lowest is given. Beyond the bytes that a call reports as written, a lent buffer stays as it was.
+ *
+ * Every bool, number, length and byte is allowed in every argument, and every call ends in one of the replies that are listed at it. */
+#ifndef DOOR_LINK_H
+#define DOOR_LINK_H
+
+#include <stdbool.h>
+#include <stddef.h>
+#include <stdint.h>
+
+#ifdef __cplusplus
+extern "C" {
+#endif
+
+enum {
+    DOOR_LINK_DOORS = 24,       /* doors are 0 to 23 */
+    DOOR_LINK_RECORDS = 4,      /* session records that a door may hold */
+    DOOR_LINK_OPTION = 40,      /* a buffer of this length is long enough for any option */
+    DOOR_LINK_TRANSCRIPT = 80,  /* and one of this length for any transcript */
+    DOOR_LINK_IDENTIFIER = 18,  /* bytes of a session's identifier */
+    DOOR_LINK_SECRET = 32,      /* bytes of a session's secret */
+    DOOR_LINK_UNIT = 8592       /* bytes of a unit */
+};
+
+/* The TEPs (encryption protocols) that the unit knows, without the bit v (0x80). */
+enum { DOOR_LINK_P256 = 0x21, DOOR_LINK_P521 = 0x22, DOOR_LINK_CURVE25519 = 0x23, DOOR_LINK_CURVE448 = 0x24 };
+
+/* What a reply says: `kind`, and what its `number` is. */
+enum {
+    DOOR_LINK_REFUSED = 0,    /* the refusal's number, below */
+    DOOR_LINK_WRITTEN = 1,    /* bytes written to the lent buffer, from its start */
+    DOOR_LINK_PLAIN = 2,      /* plain TCP: the reason, below */
+    DOOR_LINK_NOW = 3,        /* the phase that the door is in now, below */
+    DOOR_LINK_ENCRYPTED = 4,  /* bytes of the transcript; role, tep and resumed are given too */
+    DOOR_LINK_DONE = 5,       /* 0 */
+    DOOR_LINK_HOLDS = 6,      /* session records that the door holds */
+    DOOR_LINK_FOUND = 7,      /* door_link_find_status: 0 */
+    DOOR_LINK_NONE = 8,       /* door_link_find_status: 0 */
+    DOOR_LINK_BROKEN = 9      /* door_link_find_status: 0 */
+};
+
+/* Refusals. */
+enum {
+    DOOR_LINK_NO_DOOR = 1,        /* door above 23 */
+    DOOR_LINK_AREA_TOO_LONG = 2,  /* option area above 40 bytes */
+    DOOR_LINK_UNFIT = 3,          /* an argument that does not fit: see each call */
+    DOOR_LINK_OUT_OF_TURN = 4,    /* not in this phase */
+    DOOR_LINK_NO_ROOM = 5,        /* lent buffer shorter than what is to be written */
+    DOOR_LINK_FULL = 6,           /* the door holds four session records */
+    DOOR_LINK_ALREADY_HELD = 7,   /* the door holds, or has in hand, a record of this TEP and identifier */
+    DOOR_LINK_NOT_HELD = 16       /* the door holds no record of this TEP and identifier */
+};
+
+/* Phases of a door. In the sixth, Plain, a reply is PLAIN with its reason. */
+enum { DOOR_LINK_IDLE = 0, DOOR_LINK_OFFERED = 1, DOOR_LINK_CROSSED = 2, DOOR_LINK_ANSWERED = 3, DOOR_LINK_OPEN = 4 };
+
+/* Reasons for plain TCP. None is a refusal: the connection goes on without encryption. */
+enum {
+    DOOR_LINK_UNREADABLE = 1,   /* unreadable option area */
+    DOOR_LINK_NO_OPTION = 2,    /* no ENO option */
+    DOOR_LINK_ILL_FORMED = 3,   /* ill-formed ENO option */
+    DOOR_LINK_EQUAL_ROLES = 4,  /* both sides sent the same b */
+    DOOR_LINK_NOT_AWARE = 5,    /* mandatory-aware, and the other side's a is 0 */
+    DOOR_LINK_NO_TEP = 6,       /* no valid TEP */
+    DOOR_LINK_ALTERED = 7       /* the option of a second SYN is another one */
+};
+
+/* All doors and the pool. The bytes are the library's. */
+struct door_link_unit {
+    uint8_t bytes[DOOR_LINK_UNIT];
+};
+
+/* A reply in plain numbers. What a kind of reply does not have is 0. */
+struct door_link_reply {
+    size_t number;
+    uint8_t kind;
+    uint8_t role;    /* encrypted: this end's role in this connection, 0 host A, 1 host B */
+    uint8_t tep;     /* encrypted: the TEP byte as host B sent it, with v: mask with 0x7f to name the TEP */
+    uint8_t resumed; /* encrypted: 1 where a session is resumed, 0 where keys are agreed afresh */
+};
+
+/* What a call gives back. */
+struct door_link_step {
+    struct door_link_unit unit; /* the unit afterwards */
+    struct door_link_reply reply;
+};
+
+/* What door_link_result gives back. */
+struct door_link_result_step {
+    struct door_link_unit unit;
+    struct door_link_reply reply;
+    uint8_t secret[DOOR_LINK_SECRET]; /* zeros unless a session is resumed */
+};
+
+/* The empty unit: every door Idle, no session record. */
+struct door_link_unit door_link_new(void);
+
+/* An active open, or one that may cross with the other side's: writes this end's ENO option, to be put into the SYN's option area. In Idle; Offered then.
+ *   b          this end's role: 0 host A (the usual active opener), 1 host B
+ *   aware      the application-aware bit a
+ *   mandatory  plain TCP unless the other side is aware too
+ *   teps       one to four TEPs in rising priority
+ *   resume     whether to propose the oldest session record that the door holds of a listed TEP. That record leaves the pool for good.
+ *   nonce      0 to 8 bytes for the resumption, never used before with that session
+ *   out        lent; 24 bytes are always enough
+ * Replies: WRITTEN.
+ * Refused: 1; 3 where b is above 1, teps is empty, above four, repeated or unknown, nonce is above 8 bytes, or mandatory without aware; 4 not Idle; 5. */
+struct door_link_step door_link_offer(struct door_link_unit unit, size_t door, uint8_t b, bool aware, bool mandatory, const uint8_t *teps,
+                                      size_t teps_length, bool resume, const uint8_t *nonce, size_t nonce_length, uint8_t *out, size_t out_length);
+
+/* A passive open: takes the TCP option area of a received SYN, chooses a TEP, and writes this end's ENO option for the SYN+ACK; or ends in plain TCP,
+ * writes nothing and moves no record. In Idle; Answered or Plain then. A session record that the door holds is resumed where the SYN proposes it.
+ *   area       option area of the SYN, 0 to 40 bytes, not only the ENO option
+ *   aware, mandatory, teps, nonce, out   as for door_link_offer; 21 bytes are always enough
+ * Replies: WRITTEN; PLAIN with reason 1 to 6.
+ * Refused: 1; 2; 3 where teps is empty, above four, repeated or unknown, nonce is above 8 bytes, or mandatory without aware; 4 not Idle; 5. */
+struct door_link_step door_link_answer(struct door_link_unit unit, size_t door, const uint8_t *area, size_t area_length, bool aware, bool mandatory,
+                                       const uint8_t *teps, size_t teps_length, const uint8_t *nonce, size_t nonce_length, uint8_t *out, size_t out_length);
+
+/* A received segment: its flags SYN and ACK and its option area, 0 to 40 bytes.
+ *   Offered   SYN+ACK: Open or Plain. SYN alone: Crossed or Plain.
+ *   Crossed   SYN+ACK: Open with the same option as before, else Plain. ACK alone: Open with an ENO option, else Plain.
+ *   Answered  SYN alone: no change with the same option as before, else Plain. ACK alone: Open with an ENO option, else Plain.
+ *   Open, Plain  any segment: no change.
+ * Replies: NOW with the phase where it is not Plain; PLAIN with its reason, 1 to 7.
+ * Refused: 1; 2; 4 for anything else, Idle included. */
+struct door_link_step door_link_receive(struct door_link_unit unit, size_t door, bool syn, bool ack, const uint8_t *area, size_t area_length);
+
+/* Writes the option that this end sent once more, for a retransmission. Changes nothing.
+ * Replies: WRITTEN. Refused: 1; 4 where the door is not Offered, Crossed or Answered; 5. */
+struct door_link_step door_link_resend(struct door_link_unit unit, size_t door, uint8_t *out, size_t out_length);
+
+/* What the connection is. Changes nothing and may be asked again.
+ * Open: ENCRYPTED, with role, TEP byte and way; writes the transcript (host A's option, then host B's) to out, which 80 bytes always hold; `secret` is the
+ * session's where it is resumed. The original role and the nonces of a resumed session are not given: they stand in the transcript.
+ * Plain: PLAIN with its reason; nothing is written.
+ * Refused: 1; 4 where the door is neither Open nor Plain; 5 in Open. */
+struct door_link_result_step door_link_result(struct door_link_unit unit, size_t door, uint8_t *out, size_t out_length);
+
+/* The connection is over: Idle, from any phase. A record in hand is dropped and overwritten; those that the door holds stay.
+ * Replies: DONE. Refused: 1. */
+struct door_link_step door_link_close(struct door_link_unit unit, size_t door);
+
+/* Adds a session record to a door, as its newest; any phase.
+ *   tep         without v
+ *   role        this end's role in the connection that made the session, 0 host A, 1 host B
+ *   identifier  18 bytes: host A sends the first nine of them, host B the last nine
+ *   secret      32 bytes
+ * The same secret must not be stored again once its record was taken: that is for the host to see to.
+ * Replies: DONE. Refused: 1; 3 where tep is unknown, role is above 1, or a length is another; 6; 7. */
+struct door_link_step door_link_store(struct door_link_unit unit, size_t door, uint8_t tep, uint8_t role, const uint8_t *identifier,
+                                      size_t identifier_length, const uint8_t *secret, size_t secret_length);
+
+/* Removes a session record from a door and overwrites it; any phase. A record in hand, or at another door, is not held here.
+ * Replies: DONE. Refused: 1; 3 where tep is unknown or identifier is not 18 bytes; 16. */
+struct door_link_step door_link_forget(struct door_link_unit unit, size_t door, uint8_t tep, const uint8_t *identifier, size_t identifier_length);
+
+/* How many session records a door holds; one in hand is not counted. Changes nothing.
+ * Replies: HOLDS. Refused: 1. */
+struct door_link_step door_link_count(struct door_link_unit unit, size_t door);
+
+/* Empties the whole unit: all records, all doors. Replies: DONE. */
+struct door_link_step door_link_erase(struct door_link_unit unit);
+
+/* Whether a TCP option area, 0 to 40 bytes, has an ENO option; syn says whether it is a SYN's, where two of them count as none.
+ * Replies: FOUND; NONE; BROKEN where the area is unreadable. Refused: 2. */
+struct door_link_reply door_link_find_status(const uint8_t *area, size_t area_length, bool syn);
+
+/* The same calls with the unit behind a pointer: *unit is the unit before, and the unit afterwards when the call returns. Null is allowed for bytes of
+ * length 0. */
+
+static inline const uint8_t *door_link_bytes(const uint8_t *bytes) {
+    static const uint8_t none[1] = {0};
+    return bytes ? bytes : none;
+}
+
+static inline struct door_link_reply door_link_unit_offer(struct door_link_unit *unit, size_t door, uint8_t b, bool aware, bool mandatory,
+                                                          const uint8_t *teps, size_t teps_length, bool resume, const uint8_t *nonce,
+                                                          size_t nonce_length, uint8_t *out, size_t out_length) {
+    uint8_t none[1];
+    struct door_link_step step = door_link_offer(*unit, door, b, aware, mandatory, door_link_bytes(teps), teps_length, resume, door_link_bytes(nonce),
+                                                 nonce_length, out ? out : none, out_length);
+    *unit = step.unit;
+    return step.reply;
+}
+
+static inline struct door_link_reply door_link_unit_answer(struct door_link_unit *unit, size_t door, const uint8_t *area, size_t area_length, bool aware,
+                                                           bool mandatory, const uint8_t *teps, size_t teps_length, const uint8_t *nonce,
+                                                           size_t nonce_length, uint8_t *out, size_t out_length) {
+    uint8_t none[1];
+    struct door_link_step step = door_link_answer(*unit, door, door_link_bytes(area), area_length, aware, mandatory, door_link_bytes(teps), teps_length,
+                                                  door_link_bytes(nonce), nonce_length, out ? out : none, out_length);
+    *unit = step.unit;
+    return step.reply;
+}
+
+static inline struct door_link_reply door_link_unit_receive(struct door_link_unit *unit, size_t door, bool syn, bool ack, const uint8_t *area,
+                                                            size_t area_length) {
+    struct door_link_step step = door_link_receive(*unit, door, syn, ack, door_link_bytes(area), area_length);
+    *unit = step.unit;
+    return step.reply;
+}
+
+/* resend, result and count change nothing, so the unit stays where it is. */
+static inline struct door_link_reply door_link_unit_resend(const struct door_link_unit *unit, size_t door, uint8_t *out, size_t out_length) {
+    uint8_t none[1];
+    return door_link_resend(*unit, door, out ? out : none, out_length).reply;
+}
+
+/* secret: lent, 32 bytes. */
+static inline struct door_link_reply door_link_unit_result(const struct door_link_unit *unit, size_t door, uint8_t *out, size_t out_length,
+                                                           uint8_t secret[DOOR_LINK_SECRET]) {
+    uint8_t none[1];
+    struct door_link_result_step step = door_link_result(*unit, door, out ? out : none, out_length);
+    for (size_t i = 0; i < DOOR_LINK_SECRET; i++) secret[i] = step.secret[i];
+    return step.reply;
+}
+
+static inline struct door_link_reply door_link_unit_close(struct door_link_unit *unit, size_t door) {
+    struct door_link_step step = door_link_close(*unit, door);
+    *unit = step.unit;
+    return step.reply;
+}
+
+static inline struct door_link_reply door_link_unit_store(struct door_link_unit *unit, size_t door, uint8_t tep, uint8_t role, const uint8_t *identifier,
+                                                          size_t identifier_length, const uint8_t *secret, size_t secret_length) {
+    struct door_link_step step =
+        door_link_store(*unit, door, tep, role, door_link_bytes(identifier), identifier_length, door_link_bytes(secret), secret_length);
+    *unit = step.unit;
+    return step.reply;
+}
+
+static inline struct door_link_reply door_link_unit_forget(struct door_link_unit *unit, size_t door, uint8_t tep, const uint8_t *identifier,
+                                                           size_t identifier_length) {
+    struct door_link_step step = door_link_forget(*unit, door, tep, door_link_bytes(identifier), identifier_length);
+    *unit = step.unit;
+    return step.reply;
+}
+
+static inline struct door_link_reply door_link_unit_count(const struct door_link_unit *unit, size_t door) {
+    return door_link_count(*unit, door).reply;
+}
+
+static inline struct door_link_reply door_link_unit_erase(struct door_link_unit *unit) {
+    struct door_link_step step = door_link_erase(*unit);
+    *unit = step.unit;
+    return step.reply;
+}
+
+#ifdef __cplusplus
+}
+#endif
+
+#endif
