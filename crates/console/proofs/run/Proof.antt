@@ -1,0 +1,255 @@
+-- `run` is safe and ends. The invariant: each buffer keeps its length. The measure is the number of turns that are left.
+-- Below, m is the place after the line's words are read; what each buffer's length is there, and what the call after it leaves, are too far from the end of a turn to be found.
+use borrow.Author.Needs.{needs}
+use mathlib.Core.Path.{_≡_}
+use native.Mathlib.Omega.{arith}
+use lib.ListN.{length}
+use Rattle.console.proofs.run.Statement.{statement}
+use Rattle.console.proofs.run.Tie as tie
+
+abbrev Inv-loop : tie.InvT-loop
+Inv-loop chunk₀ line₀ first₀ second₀ third₀ lent₀ out₀ unit₀ place₀ number₀ turns₀ chunk line first second third lent out unit place number turns =
+    (length chunk ≡ length chunk₀) × (length line ≡ length line₀) × (length first ≡ length first₀) × (length second ≡ length second₀) × (length third ≡ length third₀) × (length lent ≡ length lent₀) × (length out ≡ length out₀)
+
+abbrev μ-loop : tie.MeasureT-loop
+μ-loop chunk₀ line₀ first₀ second₀ third₀ lent₀ out₀ unit₀ place₀ number₀ turns₀ chunk line first second third lent out unit place number turns =
+    turns
+
+new-requires : tie.Need-new-requires Inv-loop μ-loop
+new-requires c κs = search needs
+
+start-requires : tie.Need-start-requires Inv-loop μ-loop
+start-requires c κs = search needs
+
+loop-holds : tie.Need-loop-holds Inv-loop μ-loop
+loop-holds c = search needs
+
+same-length : tie.Need-same-length Inv-loop μ-loop
+same-length c = search needs
+
+same-length-2 : tie.Need-same-length-2 Inv-loop μ-loop
+same-length-2 c = search needs
+
+same-length-3 : tie.Need-same-length-3 Inv-loop μ-loop
+same-length-3 c = search needs
+
+same-length-4 : tie.Need-same-length-4 Inv-loop μ-loop
+same-length-4 c = search needs
+
+same-length-5 : tie.Need-same-length-5 Inv-loop μ-loop
+same-length-5 c = search needs
+
+same-length-6 : tie.Need-same-length-6 Inv-loop μ-loop
+same-length-6 c = search needs
+
+same-length-7 : tie.Need-same-length-7 Inv-loop μ-loop
+same-length-7 c = search needs
+
+returns : tie.Need-returns Inv-loop μ-loop
+returns c = search needs
+
+sub-turns : tie.Need-sub-turns Inv-loop μ-loop
+sub-turns c = search needs
+
+advance-requires : tie.Need-advance-requires Inv-loop μ-loop
+advance-requires c κs = search needs
+
+wrapping-add-u64-requires : tie.Need-wrapping-add-u64-requires Inv-loop μ-loop
+wrapping-add-u64-requires c κs = search needs
+
+part-requires : tie.Need-part-requires Inv-loop μ-loop
+part-requires c κs = search needs
+
+parse-requires : tie.Need-parse-requires Inv-loop μ-loop
+parse-requires c κs = search needs
+
+enum-told : tie.Need-enum-told Inv-loop μ-loop
+enum-told c = search needs
+
+loop-less : tie.Need-loop-less Inv-loop μ-loop
+loop-less c = search needs
+
+loop-again : tie.Need-loop-again Inv-loop μ-loop
+loop-again c = search needs
+
+enum-known-asked : tie.Need-enum-known-asked Inv-loop μ-loop
+enum-known-asked c = search needs
+
+unfit-requires : tie.Need-unfit-requires Inv-loop μ-loop
+unfit-requires c κs = search needs
+
+loop-less-2 : tie.Need-loop-less-2 Inv-loop μ-loop
+loop-less-2 c =
+    let m = c .before .before .before .before .before .before .before in
+    omega (arith, m .before .before .before .before .before .before .before .before .before .before .before .before .before .before .before .before .before .before .before .before .before .before .before .before .before .loop-test .taken)
+
+loop-again-2 : tie.Need-loop-again-2 Inv-loop μ-loop
+loop-again-2 c =
+    let m = c .before .before .before .before .before .before .before in
+    let i = m .before .before .before .before .before .before .before .before .before .before .before .before .before .before .before .before .before .before .before .before .before .before .before .before .before .before .loop .inv in (
+      omega (arith, m .before .before .before .before .before .before .before .before .before .before .before .before .before .before .before .before .before .before .before .before .chunk .given, i .0),
+      omega (arith, m .before .before .before .before .before .before .before .before .before .before .before .before .before .before .before .before .before .before .line .given, i .1),
+      omega (arith, m .before .before .before .before .before .before .before .first .given, i .2),
+      omega (arith, m .before .before .before .before .before .second .given, i .3),
+      omega (arith, m .before .before .before .third .given, i .4),
+      omega (arith, m .before .lent .given, i .5),
+      omega (arith, c .before .out .given, i .6),
+    )
+
+enum-known-asked-2 : tie.Need-enum-known-asked-2 Inv-loop μ-loop
+enum-known-asked-2 c = search needs
+
+call-requires : tie.Need-call-requires Inv-loop μ-loop
+call-requires c κs = search needs
+
+loop-less-3 : tie.Need-loop-less-3 Inv-loop μ-loop
+loop-less-3 c =
+    let m = c .before .before .before .before .before .before .before .before .before .before .before .before .before in
+    omega (arith, m .before .before .before .before .before .before .before .before .before .before .before .before .before .before .before .before .before .before .before .before .before .before .before .before .before .loop-test .taken)
+
+loop-again-3 : tie.Need-loop-again-3 Inv-loop μ-loop
+loop-again-3 c =
+    let m = c .before .before .before .before .before .before .before .before .before .before .before .before .before in
+    let i = m .before .before .before .before .before .before .before .before .before .before .before .before .before .before .before .before .before .before .before .before .before .before .before .before .before .before .loop .inv in (
+      omega (arith, m .before .before .before .before .before .before .before .before .before .before .before .before .before .before .before .before .before .before .before .before .chunk .given, i .0),
+      omega (arith, m .before .before .before .before .before .before .before .before .before .before .before .before .before .before .before .before .before .before .line .given, i .1),
+      omega (arith, m .before .before .before .before .before .before .before .first .given, i .2),
+      omega (arith, m .before .before .before .before .before .second .given, i .3),
+      omega (arith, m .before .before .before .third .given, i .4),
+      omega (arith, m .before .lent .given, c .before .before .before .lent2 .given, i .5),
+      omega (arith, c .before .out2 .given, i .6),
+    )
+
+enum-known-asked-3 : tie.Need-enum-known-asked-3 Inv-loop μ-loop
+enum-known-asked-3 c = search needs
+
+look-requires : tie.Need-look-requires Inv-loop μ-loop
+look-requires c κs = search needs
+
+loop-less-4 : tie.Need-loop-less-4 Inv-loop μ-loop
+loop-less-4 c =
+    let m = c .before .before .before .before .before .before .before .before .before .before in
+    omega (arith, m .before .before .before .before .before .before .before .before .before .before .before .before .before .before .before .before .before .before .before .before .before .before .before .before .before .loop-test .taken)
+
+loop-again-4 : tie.Need-loop-again-4 Inv-loop μ-loop
+loop-again-4 c =
+    let m = c .before .before .before .before .before .before .before .before .before .before in
+    let i = m .before .before .before .before .before .before .before .before .before .before .before .before .before .before .before .before .before .before .before .before .before .before .before .before .before .before .loop .inv in (
+      omega (arith, m .before .before .before .before .before .before .before .before .before .before .before .before .before .before .before .before .before .before .before .before .chunk .given, i .0),
+      omega (arith, m .before .before .before .before .before .before .before .before .before .before .before .before .before .before .before .before .before .before .line .given, i .1),
+      omega (arith, m .before .before .before .before .before .before .before .first .given, i .2),
+      omega (arith, m .before .before .before .before .before .second .given, i .3),
+      omega (arith, m .before .before .before .third .given, i .4),
+      omega (arith, m .before .lent .given, c .before .before .before .lent3 .given, i .5),
+      omega (arith, c .before .out3 .given, i .6),
+    )
+
+enum-known-asked-4 : tie.Need-enum-known-asked-4 Inv-loop μ-loop
+enum-known-asked-4 c = search needs
+
+part-requires-2 : tie.Need-part-requires-2 Inv-loop μ-loop
+part-requires-2 c κs = search needs
+
+found-requires : tie.Need-found-requires Inv-loop μ-loop
+found-requires c κs = search needs
+
+loop-less-5 : tie.Need-loop-less-5 Inv-loop μ-loop
+loop-less-5 c =
+    let m = c .before .before .before .before .before .before .before .before .before in
+    omega (arith, m .before .before .before .before .before .before .before .before .before .before .before .before .before .before .before .before .before .before .before .before .before .before .before .before .before .loop-test .taken)
+
+loop-again-5 : tie.Need-loop-again-5 Inv-loop μ-loop
+loop-again-5 c =
+    let m = c .before .before .before .before .before .before .before .before .before in
+    let i = m .before .before .before .before .before .before .before .before .before .before .before .before .before .before .before .before .before .before .before .before .before .before .before .before .before .before .loop .inv in (
+      omega (arith, m .before .before .before .before .before .before .before .before .before .before .before .before .before .before .before .before .before .before .before .before .chunk .given, i .0),
+      omega (arith, m .before .before .before .before .before .before .before .before .before .before .before .before .before .before .before .before .before .before .line .given, i .1),
+      omega (arith, m .before .before .before .before .before .before .before .first .given, i .2),
+      omega (arith, m .before .before .before .before .before .second .given, i .3),
+      omega (arith, m .before .before .before .third .given, i .4),
+      omega (arith, m .before .lent .given, i .5),
+      omega (arith, c .before .out4 .given, i .6),
+    )
+
+loop-less-6 : tie.Need-loop-less-6 Inv-loop μ-loop
+loop-less-6 c = search needs
+
+loop-again-6 : tie.Need-loop-again-6 Inv-loop μ-loop
+loop-again-6 c = search needs
+
+same-length-8 : tie.Need-same-length-8 Inv-loop μ-loop
+same-length-8 c = search needs
+
+same-length-9 : tie.Need-same-length-9 Inv-loop μ-loop
+same-length-9 c = search needs
+
+same-length-10 : tie.Need-same-length-10 Inv-loop μ-loop
+same-length-10 c = search needs
+
+same-length-11 : tie.Need-same-length-11 Inv-loop μ-loop
+same-length-11 c = search needs
+
+same-length-12 : tie.Need-same-length-12 Inv-loop μ-loop
+same-length-12 c = search needs
+
+same-length-13 : tie.Need-same-length-13 Inv-loop μ-loop
+same-length-13 c = search needs
+
+same-length-14 : tie.Need-same-length-14 Inv-loop μ-loop
+same-length-14 c = search needs
+
+returns-2 : tie.Need-returns-2 Inv-loop μ-loop
+returns-2 c = search needs
+
+pub run-spec : {M : Type 1} → statement M
+run-spec =
+    tie.close
+    (tie.spec
+    Inv-loop
+    μ-loop
+    new-requires
+    start-requires
+    loop-holds
+    same-length
+    same-length-2
+    same-length-3
+    same-length-4
+    same-length-5
+    same-length-6
+    same-length-7
+    returns
+    sub-turns
+    advance-requires
+    wrapping-add-u64-requires
+    part-requires
+    parse-requires
+    enum-told
+    loop-less
+    loop-again
+    enum-known-asked
+    unfit-requires
+    loop-less-2
+    loop-again-2
+    enum-known-asked-2
+    call-requires
+    loop-less-3
+    loop-again-3
+    enum-known-asked-3
+    look-requires
+    loop-less-4
+    loop-again-4
+    enum-known-asked-4
+    part-requires-2
+    found-requires
+    loop-less-5
+    loop-again-5
+    loop-less-6
+    loop-again-6
+    same-length-8
+    same-length-9
+    same-length-10
+    same-length-11
+    same-length-12
+    same-length-13
+    same-length-14
+    returns-2)
