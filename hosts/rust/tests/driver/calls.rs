@@ -113,7 +113,10 @@ pub enum Status {
 
 /// The finder and its companion. An empty part is `0..0`.
 pub trait Finder {
-    fn find_option(&self, area: &[u8], syn: bool) -> Range<usize>;
+    /// The part, where it is given to hosts.
+    fn find_option(&self, _area: &[u8], _syn: bool) -> Option<Range<usize>> {
+        None
+    }
     fn find_status(&self, area: &[u8], syn: bool) -> Status;
 }
 

@@ -25,12 +25,19 @@ pub fn compare<R: Finder, T: Finder>(
         };
         let syn = random.chance(50);
         let call = || format!("syn {syn} {area:02x?}");
-        let part = reference.find_option(&area, syn);
-        alike(call, &part, &tested.find_option(&area, syn))?;
         let status = reference.find_status(&area, syn);
         alike(call, &status, &tested.find_status(&area, syn))?;
-        let found = area.get(part.clone()).is_some_and(|part| !part.is_empty());
-        alike(call, &(status == Status::Found), &found)?;
+        let parts = [
+            reference.find_option(&area, syn),
+            tested.find_option(&area, syn),
+        ];
+        if let [Some(one), Some(other)] = &parts {
+            alike(call, one, other)?;
+        }
+        for part in parts.into_iter().flatten() {
+            let found = area.get(part).is_some_and(|part| !part.is_empty());
+            alike(call, &(status == Status::Found), &found)?;
+        }
         counts.meet(match status {
             Status::Found => "found",
             Status::Nothing => "none",

@@ -3,6 +3,7 @@
 
 pub mod calls;
 pub mod counts;
+pub mod every;
 pub mod finder;
 pub mod frames;
 pub mod generations;

@@ -22,8 +22,8 @@ pub use unit::Model;
 pub struct Wire;
 
 impl Finder for Wire {
-    fn find_option(&self, area: &[u8], syn: bool) -> Range<usize> {
-        area::find_option(area, syn)
+    fn find_option(&self, area: &[u8], syn: bool) -> Option<Range<usize>> {
+        Some(area::find_option(area, syn))
     }
 
     fn find_status(&self, area: &[u8], syn: bool) -> Status {

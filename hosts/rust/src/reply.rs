@@ -1,0 +1,457 @@
+//! What the calls give back, and the reading of the library's plain numbers: every number is tested, and one that the library's header does not have
+//! is [`Error::Unexpected`].
+
+use core::fmt;
+
+use crate::ffi;
+
+/// Why a call gave back no value.
+#[derive(Clone, Copy, PartialEq, Eq, Debug)]
+pub enum Error {
+    /// The call is refused: unit and lent buffer are as found.
+    Refused(Refusal),
+    /// The library gave back numbers that its header does not have, so that another library must be linked than the proved one. The unit is as
+    /// found; of a lent buffer nothing is known.
+    Unexpected,
+}
+
+/// Why a call is refused. Where several apply, the one with the lowest number is given.
+#[derive(Clone, Copy, PartialEq, Eq, Debug)]
+#[repr(u8)]
+pub enum Refusal {
+    /// The door is above 23.
+    NoDoor = 1,
+    /// The option area is above 40 bytes.
+    AreaTooLong = 2,
+    /// An argument does not fit: each call says which.
+    Unfit = 3,
+    /// The call is not for the phase that the door is in.
+    OutOfTurn = 4,
+    /// The lent buffer is shorter than what is to be written.
+    NoRoom = 5,
+    /// The door holds four session records.
+    Full = 6,
+    /// The door holds, or has in hand, a record of this TEP and identifier.
+    AlreadyHeld = 7,
+    /// The door holds no record of this TEP and identifier.
+    NotHeld = 16,
+}
+
+impl Refusal {
+    /// The number in document 01.
+    pub const fn number(self) -> u8 {
+        self as u8
+    }
+
+    fn read(number: usize) -> Option<Refusal> {
+        Some(match number {
+            1 => Refusal::NoDoor,
+            2 => Refusal::AreaTooLong,
+            3 => Refusal::Unfit,
+            4 => Refusal::OutOfTurn,
+            5 => Refusal::NoRoom,
+            6 => Refusal::Full,
+            7 => Refusal::AlreadyHeld,
+            16 => Refusal::NotHeld,
+            _ => return None,
+        })
+    }
+}
+
+impl fmt::Display for Refusal {
+    fn fmt(&self, f: &mut fmt::Formatter<'_>) -> fmt::Result {
+        f.write_str(match self {
+            Refusal::NoDoor => "there is no such door",
+            Refusal::AreaTooLong => "the option area is above 40 bytes",
+            Refusal::Unfit => "an argument does not fit",
+            Refusal::OutOfTurn => "out of turn for the door's phase",
+            Refusal::NoRoom => "the lent buffer is too short",
+            Refusal::Full => "the door holds four session records",
+            Refusal::AlreadyHeld => "the door has this session record already",
+            Refusal::NotHeld => "the door does not hold this session record",
+        })
+    }
+}
+
+impl fmt::Display for Error {
+    fn fmt(&self, f: &mut fmt::Formatter<'_>) -> fmt::Result {
+        match self {
+            Error::Refused(refusal) => write!(f, "refused with {}: {refusal}", refusal.number()),
+            Error::Unexpected => {
+                f.write_str("the library gave back numbers that its header does not have")
+            }
+        }
+    }
+}
+
+impl core::error::Error for Error {}
+
+/// Why a connection is plain TCP. It goes on without encryption; none is a refusal.
+#[derive(Clone, Copy, PartialEq, Eq, Debug)]
+#[repr(u8)]
+pub enum Reason {
+    /// The option area is unreadable.
+    Unreadable = 1,
+    /// There is no ENO option.
+    NoOption = 2,
+    /// The ENO option is ill-formed.
+    IllFormed = 3,
+    /// Both sides sent the same b.
+    EqualRoles = 4,
+    /// This end is mandatory-aware, and the other side's a is 0.
+    NotAware = 5,
+    /// There is no valid TEP.
+    NoTep = 6,
+    /// The option of a second SYN is another one.
+    Altered = 7,
+}
+
+impl Reason {
+    /// The number in document 01.
+    pub const fn number(self) -> u8 {
+        self as u8
+    }
+
+    fn read(number: usize) -> Option<Reason> {
+        Some(match number {
+            1 => Reason::Unreadable,
+            2 => Reason::NoOption,
+            3 => Reason::IllFormed,
+            4 => Reason::EqualRoles,
+            5 => Reason::NotAware,
+            6 => Reason::NoTep,
+            7 => Reason::Altered,
+            _ => return None,
+        })
+    }
+}
+
+impl fmt::Display for Reason {
+    fn fmt(&self, f: &mut fmt::Formatter<'_>) -> fmt::Result {
+        f.write_str(match self {
+            Reason::Unreadable => "unreadable option area",
+            Reason::NoOption => "no ENO option",
+            Reason::IllFormed => "ill-formed ENO option",
+            Reason::EqualRoles => "both sides sent the same b",
+            Reason::NotAware => "the other side is not aware",
+            Reason::NoTep => "no valid TEP",
+            Reason::Altered => "the option was altered",
+        })
+    }
+}
+
+/// An end's role in a connection.
+#[derive(Clone, Copy, PartialEq, Eq, Debug)]
+#[repr(u8)]
+pub enum Role {
+    /// Host A, with b = 0: the usual active opener.
+    A = 0,
+    /// Host B, with b = 1.
+    B = 1,
+}
+
+impl Role {
+    /// The bit b, as the calls take it.
+    pub const fn number(self) -> u8 {
+        self as u8
+    }
+}
+
+/// What [`answer`](crate::LinkUnit::answer) came to.
+#[derive(Clone, Copy, PartialEq, Eq, Debug)]
+pub enum Reply {
+    /// So many bytes were written to the lent buffer, from its start: the option for the SYN+ACK. The door is Answered.
+    Written(usize),
+    /// The connection is plain TCP; nothing was written.
+    Plain(Reason),
+}
+
+/// The phase that a door is in after [`receive`](crate::LinkUnit::receive).
+#[derive(Clone, Copy, PartialEq, Eq, Debug)]
+pub enum Phase {
+    /// No connection.
+    Idle,
+    /// The option for a SYN was written, and no answer is known.
+    Offered,
+    /// Both sides sent a SYN.
+    Crossed,
+    /// The option for a SYN+ACK was written.
+    Answered,
+    /// Encryption is agreed.
+    Open,
+    /// The connection is plain TCP.
+    Plain(Reason),
+}
+
+/// A session's secret. It is overwritten when dropped, and [`Debug`](fmt::Debug) does not show it.
+#[derive(Clone)]
+pub struct Secret([u8; crate::SECRET]);
+
+impl Secret {
+    /// The secret's bytes.
+    pub const fn bytes(&self) -> &[u8; crate::SECRET] {
+        &self.0
+    }
+}
+
+impl fmt::Debug for Secret {
+    fn fmt(&self, f: &mut fmt::Formatter<'_>) -> fmt::Result {
+        f.write_str("Secret(..)")
+    }
+}
+
+impl Drop for Secret {
+    fn drop(&mut self) {
+        ffi::overwrite(&mut self.0);
+    }
+}
+
+/// How a connection comes to its keys.
+#[derive(Clone, Debug)]
+pub enum Way {
+    /// Keys are to be agreed afresh.
+    Fresh,
+    /// A session is resumed; this is its secret.
+    Resumed(Secret),
+}
+
+/// What a connection is, as [`result`](crate::LinkUnit::result) tells it.
+#[derive(Clone, Debug)]
+pub enum Outcome {
+    /// Encryption is agreed.
+    Encrypted {
+        /// This end's role in this connection.
+        role: Role,
+        /// The TEP byte as host B sent it, with the bit v (0x80).
+        tep: u8,
+        /// Fresh, or resumed with its secret.
+        way: Way,
+        /// So many bytes of the transcript were written to the lent buffer: host A's option, then host B's.
+        transcript: usize,
+    },
+    /// The connection is plain TCP; nothing was written.
+    Plain(Reason),
+}
+
+/// What an option area has.
+#[derive(Clone, Copy, PartialEq, Eq, Debug)]
+pub enum Status {
+    /// An ENO option.
+    Found,
+    /// No ENO option, or two of them in a SYN.
+    Nothing,
+    /// Bytes that are no list of options.
+    Unreadable,
+}
+
+/// A reply that is no refusal, its numbers tested one by one.
+pub(crate) enum Told {
+    Written(usize),
+    Plain(Reason),
+    Now(Phase),
+    Encrypted {
+        role: Role,
+        tep: u8,
+        resumed: bool,
+        transcript: usize,
+    },
+    Done,
+    Holds(usize),
+    Status(Status),
+}
+
+impl Told {
+    /// Reads the library's numbers; `room` is the length of the lent buffer. What a kind does not have must be 0.
+    pub(crate) fn read(reply: &ffi::Reply, room: usize) -> Result<Told, Error> {
+        match (reply.kind, reply.role, reply.tep, reply.resumed) {
+            (0, 0, 0, 0) => Err(match Refusal::read(reply.number) {
+                Some(refusal) => Error::Refused(refusal),
+                None => Error::Unexpected,
+            }),
+            (kind, 0, 0, 0) => Told::bare(kind, reply.number, room).ok_or(Error::Unexpected),
+            (4, role @ 0..=1, tep, resumed @ 0..=1) if reply.number <= room => {
+                Ok(Told::Encrypted {
+                    role: if role == 0 { Role::A } else { Role::B },
+                    tep,
+                    resumed: resumed == 1,
+                    transcript: reply.number,
+                })
+            }
+            _ => Err(Error::Unexpected),
+        }
+    }
+
+    /// The kinds that have a number alone. (No TEP byte is 0, so that an encrypted connection is none of them.)
+    fn bare(kind: u8, number: usize, room: usize) -> Option<Told> {
+        Some(match (kind, number) {
+            (1, length) if length <= room => Told::Written(length),
+            (2, number) => Told::Plain(Reason::read(number)?),
+            (3, 0) => Told::Now(Phase::Idle),
+            (3, 1) => Told::Now(Phase::Offered),
+            (3, 2) => Told::Now(Phase::Crossed),
+            (3, 3) => Told::Now(Phase::Answered),
+            (3, 4) => Told::Now(Phase::Open),
+            (5, 0) => Told::Done,
+            (6, count) if count <= crate::RECORDS => Told::Holds(count),
+            (7, 0) => Told::Status(Status::Found),
+            (8, 0) => Told::Status(Status::Nothing),
+            (9, 0) => Told::Status(Status::Unreadable),
+            _ => return None,
+        })
+    }
+
+    pub(crate) fn written(self) -> Option<usize> {
+        match self {
+            Told::Written(length) => Some(length),
+            _ => None,
+        }
+    }
+
+    pub(crate) fn done(self) -> Option<()> {
+        match self {
+            Told::Done => Some(()),
+            _ => None,
+        }
+    }
+}
+
+/// The value of a reply; none where it is not one that the call has.
+pub(crate) fn read<T>(
+    reply: &ffi::Reply,
+    room: usize,
+    value: impl FnOnce(Told) -> Option<T>,
+) -> Result<T, Error> {
+    value(Told::read(reply, room)?).ok_or(Error::Unexpected)
+}
+
+/// The value of *result*'s reply. A secret where no session is resumed is not the library's.
+pub(crate) fn outcome(
+    reply: &ffi::Reply,
+    room: usize,
+    secret: [u8; crate::SECRET],
+) -> Result<Outcome, Error> {
+    let secret = Secret(secret);
+    let given = secret.0.iter().fold(0, |all, byte| all | byte) != 0;
+    let told = Told::read(reply, room);
+    let resumed = matches!(told, Ok(Told::Encrypted { resumed: true, .. }));
+    if given && !resumed {
+        return Err(Error::Unexpected);
+    }
+    match told? {
+        Told::Encrypted {
+            role,
+            tep,
+            resumed,
+            transcript,
+        } => Ok(Outcome::Encrypted {
+            role,
+            tep,
+            way: if resumed {
+                Way::Resumed(secret)
+            } else {
+                Way::Fresh
+            },
+            transcript,
+        }),
+        Told::Plain(reason) => Ok(Outcome::Plain(reason)),
+        _ => Err(Error::Unexpected),
+    }
+}
+
+#[cfg(test)]
+mod tests {
+    use super::*;
+
+    fn read(number: usize, kind: u8, role: u8, tep: u8, resumed: u8) -> Result<Told, Error> {
+        let reply = ffi::Reply {
+            number,
+            kind,
+            role,
+            tep,
+            resumed,
+        };
+        Told::read(&reply, 40)
+    }
+
+    fn unexpected(told: Result<Told, Error>) -> bool {
+        matches!(told, Err(Error::Unexpected))
+    }
+
+    /// Every kind with its least and greatest number, and one beyond.
+    #[test]
+    fn numbers_that_the_header_has_not() {
+        for (kind, least, most) in [
+            (0, 1, 7),
+            (0, 16, 16),
+            (1, 0, 40),
+            (2, 1, 7),
+            (3, 0, 4),
+            (5, 0, 0),
+            (6, 0, 4),
+            (7, 0, 0),
+            (8, 0, 0),
+            (9, 0, 0),
+        ] {
+            for number in least..=most {
+                assert!(!unexpected(read(number, kind, 0, 0, 0)));
+                assert!(unexpected(read(number, kind, 1, 0, 0)));
+                assert!(unexpected(read(number, kind, 0, 0x23, 0)));
+                assert!(unexpected(read(number, kind, 0, 0, 1)));
+            }
+            assert!(unexpected(read(most + 1, kind, 0, 0, 0)));
+            assert!(unexpected(read(usize::MAX, kind, 0, 0, 0)));
+            assert!(least == 0 || unexpected(read(least - 1, kind, 0, 0, 0)));
+        }
+        for kind in 10..=255 {
+            assert!(unexpected(read(0, kind, 0, 0, 0)));
+        }
+        assert!(!unexpected(read(40, 4, 1, 0xa3, 1)));
+        assert!(unexpected(read(41, 4, 1, 0xa3, 1)));
+        assert!(unexpected(read(40, 4, 2, 0xa3, 1)));
+        assert!(unexpected(read(40, 4, 1, 0xa3, 2)));
+        assert!(unexpected(read(40, 4, 0, 0, 0)));
+    }
+
+    #[test]
+    fn refusals_and_reasons_keep_their_numbers() {
+        for number in 0..=300 {
+            let refusal = Refusal::read(number).map(|refusal| usize::from(refusal.number()));
+            let known = matches!(number, 1..=7 | 16);
+            assert_eq!(refusal, known.then_some(number));
+            let reason = Reason::read(number).map(|reason| usize::from(reason.number()));
+            assert_eq!(reason, (1..=7).contains(&number).then_some(number));
+        }
+    }
+
+    #[test]
+    fn secrets_where_none_should_be() {
+        let reply = |kind, number, resumed| ffi::Reply {
+            number,
+            kind,
+            role: 0,
+            tep: if kind == 4 { 0x23 } else { 0 },
+            resumed,
+        };
+        let mut secret = [0; 32];
+        secret[31] = 1;
+        let refused = Err(Error::Refused(Refusal::OutOfTurn));
+        for (reply, expected) in [
+            (reply(0, 4, 0), refused),
+            (reply(2, 6, 0), Ok(())),
+            (reply(4, 8, 0), Ok(())),
+        ] {
+            assert_eq!(outcome(&reply, 40, [0; 32]).map(|_| ()), expected);
+            let shown = outcome(&reply, 40, secret).map(|_| ());
+            assert_eq!(shown, Err(Error::Unexpected));
+        }
+        for secret in [secret, [0; 32]] {
+            let resumed = outcome(&reply(4, 8, 1), 40, secret);
+            assert!(matches!(
+                resumed,
+                Ok(Outcome::Encrypted { way: Way::Resumed(s), transcript: 8, .. }) if s.bytes() == &secret
+            ));
+        }
+        let other = outcome(&reply(5, 0, 0), 40, [0; 32]).map(|_| ());
+        assert_eq!(other, Err(Error::Unexpected));
+    }
+}

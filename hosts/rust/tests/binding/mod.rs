@@ -1,0 +1,160 @@
+//! The library behind the driver's traits, reached through the crate's safe calls alone.
+
+use door_link::{self as link, Error, LinkUnit, Outcome, Phase, Way};
+
+use crate::driver::calls::{Finder, PhaseNow, Reply, Status, Unit};
+
+/// The number that stands for a reply that could not be read; the model never gives it.
+const UNEXPECTED: u8 = 255;
+
+pub struct Binding(LinkUnit);
+
+impl Binding {
+    pub fn new() -> Binding {
+        Binding(LinkUnit::new())
+    }
+}
+
+fn number(error: Error) -> u8 {
+    match error {
+        Error::Refused(refusal) => refusal.number(),
+        Error::Unexpected => UNEXPECTED,
+    }
+}
+
+fn told<T>(outcome: Result<T, Error>, reply: impl FnOnce(T) -> Reply) -> Reply {
+    match outcome {
+        Ok(value) => reply(value),
+        Err(error) => Reply::Refused(number(error)),
+    }
+}
+
+fn done(outcome: Result<(), Error>) -> Reply {
+    told(outcome, |()| Reply::Done)
+}
+
+impl Unit for Binding {
+    fn offer(
+        &mut self,
+        door: usize,
+        b: u8,
+        aware: bool,
+        mandatory: bool,
+        teps: &[u8],
+        resume: bool,
+        nonce: &[u8],
+        out: &mut [u8],
+    ) -> Reply {
+        let ask = link::Offer {
+            b,
+            aware,
+            mandatory,
+            teps,
+            resume,
+            nonce,
+        };
+        told(self.0.offer(door, ask, out), Reply::Written)
+    }
+
+    fn answer(
+        &mut self,
+        door: usize,
+        area: &[u8],
+        aware: bool,
+        mandatory: bool,
+        teps: &[u8],
+        nonce: &[u8],
+        out: &mut [u8],
+    ) -> Reply {
+        let ask = link::Answer {
+            area,
+            aware,
+            mandatory,
+            teps,
+            nonce,
+        };
+        told(self.0.answer(door, ask, out), |reply| match reply {
+            link::Reply::Written(length) => Reply::Written(length),
+            link::Reply::Plain(reason) => Reply::Plain(reason.number()),
+        })
+    }
+
+    fn receive(&mut self, door: usize, syn: bool, ack: bool, area: &[u8]) -> Reply {
+        told(self.0.receive(door, syn, ack, area), |phase| {
+            Reply::Now(match phase {
+                Phase::Idle => PhaseNow::Idle,
+                Phase::Offered => PhaseNow::Offered,
+                Phase::Crossed => PhaseNow::Crossed,
+                Phase::Answered => PhaseNow::Answered,
+                Phase::Open => PhaseNow::Open,
+                Phase::Plain(reason) => PhaseNow::Plain(reason.number()),
+            })
+        })
+    }
+
+    fn resend(&mut self, door: usize, out: &mut [u8]) -> Reply {
+        told(self.0.resend(door, out), Reply::Written)
+    }
+
+    fn result(&mut self, door: usize, out: &mut [u8]) -> (Reply, [u8; 32]) {
+        match self.0.result(door, out) {
+            Ok(Outcome::Encrypted {
+                role,
+                tep,
+                way,
+                transcript,
+            }) => {
+                let (resumed, secret) = match way {
+                    Way::Fresh => (false, [0; 32]),
+                    Way::Resumed(secret) => (true, *secret.bytes()),
+                };
+                let reply = Reply::Open {
+                    role: role.number(),
+                    tep,
+                    resumed,
+                    transcript,
+                };
+                (reply, secret)
+            }
+            Ok(Outcome::Plain(reason)) => (Reply::Plain(reason.number()), [0; 32]),
+            Err(error) => (Reply::Refused(number(error)), [0; 32]),
+        }
+    }
+
+    fn close(&mut self, door: usize) -> Reply {
+        done(self.0.close(door))
+    }
+
+    fn store(&mut self, door: usize, tep: u8, role: u8, identifier: &[u8], secret: &[u8]) -> Reply {
+        done(self.0.store(door, tep, role, identifier, secret))
+    }
+
+    fn forget(&mut self, door: usize, tep: u8, identifier: &[u8]) -> Reply {
+        done(self.0.forget(door, tep, identifier))
+    }
+
+    fn count(&mut self, door: usize) -> Reply {
+        told(self.0.count(door), Reply::Count)
+    }
+
+    fn erase(&mut self) -> Reply {
+        done(self.0.erase())
+    }
+}
+
+/// The finder's word; the part itself is not given to hosts.
+pub struct Word;
+
+impl Finder for Word {
+    fn find_status(&self, area: &[u8], syn: bool) -> Status {
+        match link::find_status(area, syn) {
+            Ok(link::Status::Found) => Status::Found,
+            Ok(link::Status::Nothing) => Status::Nothing,
+            Ok(link::Status::Unreadable) => Status::Unreadable,
+            Err(error) => {
+                assert_eq!(number(error), 2, "{error}: {area:02x?}");
+                Status::Refused
+            }
+        }
+    }
+}
