@@ -8,5 +8,5 @@ mod rows;
 fn main() {
     rfc8547::table();
     bench_table::table();
-    // The rows on Init messages and frames stand here once their crates do.
+    // The rows on Init messages and frames are still to come.
 }
