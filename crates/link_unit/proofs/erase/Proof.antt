@@ -4,7 +4,7 @@ use mathlib.Core.List.{[]}
 use Rattle.door.specs.Outcome.{done}
 use Rattle.unit.specs.Run.{step}
 use Rattle.unit.specs.declared.LinkUnit.{LinkUnit}
-use Rattle.link_unit.proofs.Stepping.{stepAs}
+use Rattle.unit_step.specs.Stepping.{stepAs}
 use borrow.Author.Needs.{needs}
 use Rattle.link_unit.proofs.erase.Statement.{statement}
 use Rattle.link_unit.proofs.erase.Tie as tie

@@ -1,4 +1,4 @@
--- `link_unit::resend` meets its contract.
+-- `unit_segments::resend` meets its contract.
 use mathlib.Core.Path.{sym}
 use native.Mathlib.Omega.{arith}
 use denote.Ref.{now}
@@ -6,12 +6,12 @@ use Rattle.unit.specs.Unit.{view}
 use Rattle.door.specs.Calls.{resend, outcome}
 use Rattle.door.specs.Numbered.{lentOf}
 use Rattle.unit.specs.Numbers.{doorsN}
-use Rattle.link_unit.proofs.Stepping.{step-past, step-kept, view-of}
+use Rattle.unit_step.specs.Stepping.{step-past, step-kept, view-of}
 use borrow.Author.Needs.{needs}
-use Rattle.link_unit.proofs.resend.Statement.{statement}
-use Rattle.link_unit.proofs.resend.Tie as tie
-use Rattle.link_unit.proofs.resend.Reads as reads
-use Rattle.link_unit.proofs.resend.Lts as lts
+use Rattle.unit_segments.proofs.resend.Statement.{statement}
+use Rattle.unit_segments.proofs.resend.Tie as tie
+use Rattle.unit_segments.proofs.resend.Reads as reads
+use Rattle.unit_segments.proofs.resend.Lts as lts
 use Rattle.segments.proofs.resend.Reads as resend-reads
 
 returns : tie.Need-returns

@@ -1,15 +1,15 @@
--- `link_unit::offer` meets its contract.
+-- `unit_opening::offer` meets its contract.
 use native.Mathlib.Omega.{arith}
 use denote.Ref.{now}
 use Rattle.door.specs.Calls.{offer, outcome}
 use Rattle.door.specs.Numbered.{lentOf}
 use Rattle.unit.specs.Numbers.{doorsN}
-use Rattle.link_unit.proofs.Stepping.{with-zeros, step-past, step-carried}
+use Rattle.unit_step.specs.Stepping.{with-zeros, step-past, step-carried}
 use borrow.Author.Needs.{needs}
-use Rattle.link_unit.proofs.offer.Statement.{statement}
-use Rattle.link_unit.proofs.offer.Tie as tie
-use Rattle.link_unit.proofs.offer.Reads as reads
-use Rattle.link_unit.proofs.offer.Lts as lts
+use Rattle.unit_opening.proofs.offer.Statement.{statement}
+use Rattle.unit_opening.proofs.offer.Tie as tie
+use Rattle.unit_opening.proofs.offer.Reads as reads
+use Rattle.unit_opening.proofs.offer.Lts as lts
 use Rattle.door.proofs.no_session.Reads as no-session-reads
 use Rattle.opening.proofs.offer.Reads as offer-reads
 use Rattle.pool.proofs.enacted.Reads as enacted-reads

@@ -1,4 +1,4 @@
--- `link_unit::result` meets its contract.
+-- `unit_segments::result` meets its contract.
 use mathlib.Core.Path.{sym, ap, _∙_}
 use native.Mathlib.Omega.{arith}
 use denote.Ref.{now}
@@ -9,12 +9,12 @@ use Rattle.unit.specs.Run.{Step}
 use Rattle.door.specs.Calls.{result, outcome}
 use Rattle.door.specs.Numbered.{lentOf}
 use Rattle.unit.specs.Numbers.{doorsN}
-use Rattle.link_unit.proofs.Stepping.{step-past, step-kept, view-of}
+use Rattle.unit_step.specs.Stepping.{step-past, step-kept, view-of}
 use borrow.Author.Needs.{needs}
-use Rattle.link_unit.proofs.result.Statement.{statement}
-use Rattle.link_unit.proofs.result.Tie as tie
-use Rattle.link_unit.proofs.result.Reads as reads
-use Rattle.link_unit.proofs.result.Lts as lts
+use Rattle.unit_segments.proofs.result.Statement.{statement}
+use Rattle.unit_segments.proofs.result.Tie as tie
+use Rattle.unit_segments.proofs.result.Reads as reads
+use Rattle.unit_segments.proofs.result.Lts as lts
 use Rattle.segments.proofs.result.Reads as result-reads
 
 returns : tie.Need-returns

@@ -1,4 +1,4 @@
--- `link_unit::receive` meets its contract.
+-- `unit_segments::receive` meets its contract.
 use mathlib.Core.Path.{sym}
 use native.Mathlib.Omega.{arith}
 use denote.Ref.{now}
@@ -6,12 +6,12 @@ use Rattle.unit.specs.Unit.{view}
 use Rattle.door.specs.Calls.{receive, outcome}
 use Rattle.door.specs.Numbered.{lentOf}
 use Rattle.unit.specs.Numbers.{doorsN}
-use Rattle.link_unit.proofs.Stepping.{step-past, step-carried, view-of}
+use Rattle.unit_step.specs.Stepping.{step-past, step-carried, view-of}
 use borrow.Author.Needs.{needs}
-use Rattle.link_unit.proofs.receive.Statement.{statement}
-use Rattle.link_unit.proofs.receive.Tie as tie
-use Rattle.link_unit.proofs.receive.Reads as reads
-use Rattle.link_unit.proofs.receive.Lts as lts
+use Rattle.unit_segments.proofs.receive.Statement.{statement}
+use Rattle.unit_segments.proofs.receive.Tie as tie
+use Rattle.unit_segments.proofs.receive.Reads as reads
+use Rattle.unit_segments.proofs.receive.Lts as lts
 use Rattle.pool.proofs.with_door.Reads as with-door-reads
 use Rattle.segments.proofs.receive.Reads as receive-reads
 

@@ -1,16 +1,16 @@
--- `link_unit::close` meets its contract.
+-- `unit_segments::close` meets its contract.
 use mathlib.Core.Path.{sym}
 use native.Mathlib.Omega.{arith}
 use Rattle.unit.specs.Unit.{view}
 use Rattle.door.specs.Calls.{close, outcome}
 use Rattle.door.specs.Numbered.{lentOf}
 use Rattle.unit.specs.Numbers.{doorsN}
-use Rattle.link_unit.proofs.Stepping.{step-past, step-carried, view-of}
+use Rattle.unit_step.specs.Stepping.{step-past, step-carried, view-of}
 use borrow.Author.Needs.{needs}
-use Rattle.link_unit.proofs.close.Statement.{statement}
-use Rattle.link_unit.proofs.close.Tie as tie
-use Rattle.link_unit.proofs.close.Reads as reads
-use Rattle.link_unit.proofs.close.Lts as lts
+use Rattle.unit_segments.proofs.close.Statement.{statement}
+use Rattle.unit_segments.proofs.close.Tie as tie
+use Rattle.unit_segments.proofs.close.Reads as reads
+use Rattle.unit_segments.proofs.close.Lts as lts
 use Rattle.pool.proofs.with_door.Reads as with-door-reads
 use Rattle.segments.proofs.close.Reads as close-reads
 

@@ -1,15 +1,15 @@
--- `link_unit::count` meets its contract.
+-- `unit_records::count` meets its contract.
 use native.Mathlib.Omega.{arith}
 use Rattle.door.specs.Door.{seenOf}
 use Rattle.door.specs.Calls.{count, outcome}
 use Rattle.door.specs.Numbered.{lentOf}
 use Rattle.unit.specs.Numbers.{doorsN}
-use Rattle.link_unit.proofs.Stepping.{step-past, step-seen}
+use Rattle.unit_step.specs.Stepping.{step-past, step-seen}
 use borrow.Author.Needs.{needs}
-use Rattle.link_unit.proofs.count.Statement.{statement}
-use Rattle.link_unit.proofs.count.Tie as tie
-use Rattle.link_unit.proofs.count.Reads as reads
-use Rattle.link_unit.proofs.count.Lts as lts
+use Rattle.unit_records.proofs.count.Statement.{statement}
+use Rattle.unit_records.proofs.count.Tie as tie
+use Rattle.unit_records.proofs.count.Reads as reads
+use Rattle.unit_records.proofs.count.Lts as lts
 use Rattle.pool.proofs.view_of.Reads as view-of-reads
 use Rattle.records.proofs.count.Reads as count-reads
 

@@ -1,15 +1,15 @@
--- `link_unit::forget` meets its contract.
+-- `unit_records::forget` meets its contract.
 use native.Mathlib.Omega.{arith}
 use denote.Ref.{now}
 use Rattle.door.specs.Calls.{forget, outcome}
 use Rattle.door.specs.Numbered.{lentOf}
 use Rattle.unit.specs.Numbers.{doorsN}
-use Rattle.link_unit.proofs.Stepping.{with-zeros, step-past, step-carried}
+use Rattle.unit_step.specs.Stepping.{with-zeros, step-past, step-carried}
 use borrow.Author.Needs.{needs}
-use Rattle.link_unit.proofs.forget.Statement.{statement}
-use Rattle.link_unit.proofs.forget.Tie as tie
-use Rattle.link_unit.proofs.forget.Reads as reads
-use Rattle.link_unit.proofs.forget.Lts as lts
+use Rattle.unit_records.proofs.forget.Statement.{statement}
+use Rattle.unit_records.proofs.forget.Tie as tie
+use Rattle.unit_records.proofs.forget.Reads as reads
+use Rattle.unit_records.proofs.forget.Lts as lts
 use Rattle.door.proofs.no_session.Reads as no-session-reads
 use Rattle.pool.proofs.enacted.Reads as enacted-reads
 use Rattle.pool.proofs.view_of.Reads as view-of-reads

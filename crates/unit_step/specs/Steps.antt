@@ -3,8 +3,8 @@ use Prim.Native.Nat.{ℕ}
 use mathlib.Core.List.{List, []}
 use Rattle.door.specs.Answers.{replyOf}
 use Rattle.unit.specs.Run.{Step}
-use Rattle.link_unit.specs.declared.Replied.{Replied}
-use Rattle.link_unit.specs.declared.Resulted.{Resulted}
+use Rattle.unit_step.specs.declared.Replied.{Replied}
+use Rattle.unit_step.specs.declared.Resulted.{Resulted}
 
 abbrev pub stepOf : Replied → List ℕ → Step
 stepOf r lent = record { told = record { reply = replyOf (r .reply) []; buffer = lent }; unit = r .unit }

@@ -1,15 +1,15 @@
--- `link_unit::answer` meets its contract.
+-- `unit_opening::answer` meets its contract.
 use native.Mathlib.Omega.{arith}
 use denote.Ref.{now}
 use Rattle.door.specs.Calls.{answer, outcome}
 use Rattle.door.specs.Numbered.{lentOf}
 use Rattle.unit.specs.Numbers.{doorsN}
-use Rattle.link_unit.proofs.Stepping.{with-zeros, step-past, step-carried}
+use Rattle.unit_step.specs.Stepping.{with-zeros, step-past, step-carried}
 use borrow.Author.Needs.{needs}
-use Rattle.link_unit.proofs.answer.Statement.{statement}
-use Rattle.link_unit.proofs.answer.Tie as tie
-use Rattle.link_unit.proofs.answer.Reads as reads
-use Rattle.link_unit.proofs.answer.Lts as lts
+use Rattle.unit_opening.proofs.answer.Statement.{statement}
+use Rattle.unit_opening.proofs.answer.Tie as tie
+use Rattle.unit_opening.proofs.answer.Reads as reads
+use Rattle.unit_opening.proofs.answer.Lts as lts
 use Rattle.door.proofs.no_session.Reads as no-session-reads
 use Rattle.opening.proofs.answer.Reads as answer-reads
 use Rattle.pool.proofs.enacted.Reads as enacted-reads

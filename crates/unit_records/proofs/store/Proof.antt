@@ -1,4 +1,4 @@
--- `link_unit::store` meets its contract.
+-- `unit_records::store` meets its contract.
 use mathlib.Core.Path.{_≡_, sym, ap₂}
 use native.Mathlib.Omega.{arith}
 use denote.Ref.{now}
@@ -8,12 +8,12 @@ use Rattle.door.specs.Calls.{store, outcome}
 use Rattle.door.specs.Numbered.{lentOf}
 use Rattle.unit.specs.Numbers.{doorsN, rowsN}
 use Rattle.unit.specs.Unit.{isFree}
-use Rattle.link_unit.proofs.Stepping.{step-past, step-told-free}
+use Rattle.unit_step.specs.Stepping.{step-past, step-told-free}
 use borrow.Author.Needs.{needs}
-use Rattle.link_unit.proofs.store.Statement.{statement}
-use Rattle.link_unit.proofs.store.Tie as tie
-use Rattle.link_unit.proofs.store.Reads as reads
-use Rattle.link_unit.proofs.store.Lts as lts
+use Rattle.unit_records.proofs.store.Statement.{statement}
+use Rattle.unit_records.proofs.store.Tie as tie
+use Rattle.unit_records.proofs.store.Reads as reads
+use Rattle.unit_records.proofs.store.Lts as lts
 use Rattle.pool.proofs.enacted.Reads as enacted-reads
 use Rattle.pool.proofs.first_free.Reads as first-free-reads
 use Rattle.pool.proofs.view_of.Reads as view-of-reads

@@ -1,2 +1,0 @@
--- Laws of the unit's calls in code.
-pub mod Stepping
