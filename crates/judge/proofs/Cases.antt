@@ -19,8 +19,9 @@ use Rattle.suboptions.specs.Summary.{entriesOf, summaryOf}
 use Rattle.suboptions.specs.Laws.{saying, summary-says}
 use Rattle.suboptions.specs.declared.Summary.{Summary}
 use Rattle.judge.specs.Answers.{judgedOf, transcriptOf, padded, withoutTranscript, Judges}
-use Rattle.judge.specs.Quick.{bestOf, concluded, negotiated, rankOf, notFound}
-use Rattle.judge.specs.declared.Best.{Best}
+use Rattle.valid_tep.specs.Best.{bestOf}
+use Rattle.judge.specs.Quick.{concluded, negotiated, rankOf, notFound}
+use Rattle.valid_tep.specs.declared.Best.{Best}
 use Rattle.judge.specs.declared.Reason.the-variants as reason
 use Rattle.judge.specs.declared.Verdict.{Verdict}
 use Rattle.judge.specs.declared.Verdict.the-variants as verdict

@@ -12,7 +12,7 @@ use Rattle.judge.specs.Quick.{byteBefore, concluded}
 use Rattle.judge.specs.declared.Reason.the-variants as reason
 use Rattle.judge.specs.declared.Verdict.the-variants as verdict
 use Rattle.judge.specs.declared.Judgement.{Judgement}
-use Rattle.judge.specs.declared.Best.{Best}
+use Rattle.valid_tep.specs.declared.Best.{Best}
 
 drop-zeros : (n k : ℕ) → drop {A = ℕ} k (replicate n 0) ≡ replicate (n - k) 0
 drop-zeros n zero = ap (λ m. replicate m 0) (let e : n ≡ n - 0 = omega arith in e)

@@ -12,8 +12,8 @@ use lib.Dec.{leb}
 use Rattle.eno.specs.Suboption.{Sent, name}
 use Rattle.eno.specs.Judge.{Way, fresh, resumed, wayIf, isResumed, Negotiated, negotiatedBy, orElse, lastValid}
 use Rattle.eno.specs.Laws.Teps.{In, Ordered, ordered-in}
-use Rattle.judge.specs.Quick.{foundAt, noneYet, laterOf, betterOf, bestFrom}
-use Rattle.judge.specs.declared.Best.{Best}
+use Rattle.valid_tep.specs.Best.{foundAt, noneYet, laterOf, betterOf, bestFrom}
+use Rattle.valid_tep.specs.declared.Best.{Best}
 
 abbrev chosenAs : Sent → Way → Option Negotiated
 chosenAs x w = some (record { byte = x .byte; way = w })

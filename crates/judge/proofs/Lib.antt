@@ -1,6 +1,5 @@
 -- Laws that the proofs share.
 pub mod Steps
-pub mod Choosing
 pub mod Concluding
 pub mod Last
 pub mod Ways

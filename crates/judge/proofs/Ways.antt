@@ -21,7 +21,7 @@ use Rattle.eno.specs.declared.SessionRecord.{SessionRecord}
 use Rattle.suboptions.specs.Summary.{never, entryFrom, entriesOf, asSent}
 use Rattle.suboptions.specs.Laws.{entry-of, entry-times, entry-once}
 use Rattle.suboptions.specs.declared.Entry.{Entry}
-use Rattle.judge.specs.Quick.{startsB, matchesAt, wayOfEntries, entryAt, waysOf, startsOf}
+use Rattle.valid_tep.specs.Best.{startsB, matchesAt, wayOfEntries, entryAt, waysOf, startsOf}
 
 -- the two ways of asking come to the same, whatever A's and B's data are: f fresh, g 18 bytes or more, m matching
 way-b-mine : (fb gb fa ga m : Bool) → cond (not (not fa && ga) && not (not fb && gb)) (cond fb (some fresh) (cond (not fa && m) (some resumed) none)) none

@@ -1,5 +1,5 @@
 -- `host_a_option` meets its contract.
-use Rattle.judge.proofs.Steps.{a-peer, a-own}
+use Rattle.valid_tep.proofs.Steps.{a-peer, a-own}
 use Rattle.judge.proofs.host_a_option.Statement.{statement}
 use Rattle.judge.proofs.host_a_option.Tie as tie
 

@@ -1,5 +1,5 @@
 -- `host_b_option` meets its contract.
-use Rattle.judge.proofs.Steps.{b-own, b-peer}
+use Rattle.valid_tep.proofs.Steps.{b-own, b-peer}
 use Rattle.judge.proofs.host_b_option.Statement.{statement}
 use Rattle.judge.proofs.host_b_option.Tie as tie
 

@@ -1,11 +1,11 @@
 -- `half_stands` meets its contract.
 use mathlib.Core.Path.{_≡_, refl, sym, _∙_, ap}
 use native.Mathlib.Omega.{arith}
-use Rattle.judge.proofs.Steps.{half-at}
+use Rattle.valid_tep.proofs.Steps.{half-at}
 use lib.ListN.{length}
 use borrow.Author.Needs.{needs}
-use Rattle.judge.proofs.half_stands.Statement.{statement}
-use Rattle.judge.proofs.half_stands.Tie as tie
+use Rattle.valid_tep.proofs.half_stands.Statement.{statement}
+use Rattle.valid_tep.proofs.half_stands.Tie as tie
 
 add-stands-at : tie.Need-add-stands-at
 add-stands-at c = search needs

@@ -1,8 +1,8 @@
 -- `later` meets its contract.
 use native.Mathlib.Omega.{arith}
-use Rattle.judge.proofs.Steps.{later-none, later-kept, later-taken}
-use Rattle.judge.proofs.later.Statement.{statement}
-use Rattle.judge.proofs.later.Tie as tie
+use Rattle.valid_tep.proofs.Steps.{later-none, later-kept, later-taken}
+use Rattle.valid_tep.proofs.later.Statement.{statement}
+use Rattle.valid_tep.proofs.later.Tie as tie
 
 returns : tie.Need-returns
 returns c = later-kept _ _ _ (c .before .before .if1 .taken) (omega arith)

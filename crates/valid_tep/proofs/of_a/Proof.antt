@@ -1,7 +1,7 @@
 -- `of_a` meets its contract.
-use Rattle.judge.proofs.Steps.{a-peer, a-own}
-use Rattle.judge.proofs.of_a.Statement.{statement}
-use Rattle.judge.proofs.of_a.Tie as tie
+use Rattle.valid_tep.proofs.Steps.{a-peer, a-own}
+use Rattle.valid_tep.proofs.of_a.Statement.{statement}
+use Rattle.valid_tep.proofs.of_a.Tie as tie
 
 returns : tie.Need-returns
 returns c = a-peer _ _ _ (c .if1 .taken)

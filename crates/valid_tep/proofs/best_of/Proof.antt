@@ -4,9 +4,9 @@ use Prim.Native.Nat.{_-_}
 use native.Mathlib.Omega.{arith}
 use borrow.Author.Needs.{needs}
 use Rattle.eno.specs.Session.{inHand}
-use Rattle.judge.proofs.Choosing.{Chosen, chosen-start, chosen-step, chosen-all}
-use Rattle.judge.proofs.best_of.Statement.{statement}
-use Rattle.judge.proofs.best_of.Tie as tie
+use Rattle.valid_tep.proofs.Choosing.{Chosen, chosen-start, chosen-step, chosen-all}
+use Rattle.valid_tep.proofs.best_of.Statement.{statement}
+use Rattle.valid_tep.proofs.best_of.Tie as tie
 
 abbrev Inv-loop : tie.InvT-loop
 Inv-loop a b hand own-is-b own peer best₀ t₀ best t = Chosen a b (inHand hand) own-is-b own peer best t

@@ -8,8 +8,8 @@ use native.Mathlib.Omega.{arith}
 use Rattle.eno.specs.Judge.{Way, ofA, ofB}
 use Rattle.eno.specs.declared.SessionRecord.{SessionRecord}
 use Rattle.suboptions.specs.declared.Entry.{Entry}
-use Rattle.judge.specs.Quick.{wayOfEntries, betterOf, bestFrom, noneYet, entryAt, waysOf, startsOf, bestOf}
-use Rattle.judge.specs.declared.Best.{Best}
+use Rattle.valid_tep.specs.Best.{wayOfEntries, betterOf, bestFrom, noneYet, entryAt, waysOf, startsOf, bestOf}
+use Rattle.valid_tep.specs.declared.Best.{Best}
 
 module _ (a b : List ℕ) (hand : Option SessionRecord) (ownIsB : Bool) (own peer : List Entry) where
   pub record Chosen (best : Best) (t : ℕ) : Type 0 where

@@ -1,8 +1,8 @@
 -- `starts_b` meets its contract.
 use native.Mathlib.Omega.{arith}
-use Rattle.judge.proofs.Steps.{starts-own-first, starts-own-second, starts-peer-second, starts-peer-first}
-use Rattle.judge.proofs.starts_b.Statement.{statement}
-use Rattle.judge.proofs.starts_b.Tie as tie
+use Rattle.valid_tep.proofs.Steps.{starts-own-first, starts-own-second, starts-peer-second, starts-peer-first}
+use Rattle.valid_tep.proofs.starts_b.Statement.{statement}
+use Rattle.valid_tep.proofs.starts_b.Tie as tie
 
 returns : tie.Need-returns
 returns c = starts-own-first _ _ (c .before .if1 .taken) (omega arith)

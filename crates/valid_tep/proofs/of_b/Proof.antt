@@ -1,7 +1,7 @@
 -- `of_b` meets its contract.
-use Rattle.judge.proofs.Steps.{b-own, b-peer}
-use Rattle.judge.proofs.of_b.Statement.{statement}
-use Rattle.judge.proofs.of_b.Tie as tie
+use Rattle.valid_tep.proofs.Steps.{b-own, b-peer}
+use Rattle.valid_tep.proofs.of_b.Statement.{statement}
+use Rattle.valid_tep.proofs.of_b.Tie as tie
 
 returns : tie.Need-returns
 returns c = b-own _ _ _ (c .if1 .taken)

@@ -1,9 +1,9 @@
 -- `way_of` meets its contract.
 use native.Mathlib.Omega.{arith}
-use Rattle.judge.proofs.Steps.{way-not-a, way-not-b, way-bad-a, way-bad-b, way-fresh, way-fresh-a, way-resumed, way-no-match}
+use Rattle.valid_tep.proofs.Steps.{way-not-a, way-not-b, way-bad-a, way-bad-b, way-fresh, way-fresh-a, way-resumed, way-no-match}
 use borrow.Author.Needs.{needs}
-use Rattle.judge.proofs.way_of.Statement.{statement}
-use Rattle.judge.proofs.way_of.Tie as tie
+use Rattle.valid_tep.proofs.way_of.Statement.{statement}
+use Rattle.valid_tep.proofs.way_of.Tie as tie
 
 returns : tie.Need-returns
 returns c = way-not-a _ _ _ _ _ _ _ (omega arith)

@@ -1,10 +1,10 @@
 -- `matches` meets its contract.
 use native.Mathlib.Omega.{arith}
 use borrow.Author.Tests.{not-true, not-false}
-use Rattle.judge.proofs.Steps.{match-none, match-other, match-not, match-if}
+use Rattle.valid_tep.proofs.Steps.{match-none, match-other, match-not, match-if}
 use borrow.Author.Needs.{needs}
-use Rattle.judge.proofs.matches.Statement.{statement}
-use Rattle.judge.proofs.matches.Tie as tie
+use Rattle.valid_tep.proofs.matches.Statement.{statement}
+use Rattle.valid_tep.proofs.matches.Tie as tie
 
 returns : tie.Need-returns
 returns c = match-none _ _ _ _ _ _ _ (not-true _ (c .if1 .taken))

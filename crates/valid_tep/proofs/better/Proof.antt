@@ -1,10 +1,10 @@
 -- `better` meets its contract.
 use mathlib.Core.Path.{_≡_, refl, sym, _∙_, ap}
-use Rattle.judge.proofs.Steps.{better-by}
-use Rattle.judge.specs.Quick.{betterOf}
+use Rattle.valid_tep.proofs.Steps.{better-by}
+use Rattle.valid_tep.specs.Best.{betterOf}
 use borrow.Author.Needs.{needs}
-use Rattle.judge.proofs.better.Statement.{statement}
-use Rattle.judge.proofs.better.Tie as tie
+use Rattle.valid_tep.proofs.better.Statement.{statement}
+use Rattle.valid_tep.proofs.better.Tie as tie
 
 enum-told : tie.Need-enum-told
 enum-told c = search needs
