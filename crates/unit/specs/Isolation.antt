@@ -78,6 +78,15 @@ module _ (u : LinkUnit) (d : ℕ) (s : Inv u) (h : d < doorsN) where
   view-on a e l n = ap (λ (x : Step). view (x .unit) e) (step-is a) ∙ view-other u d s h (its a .door) (its a .effect) (effect-fits a) e l n
 
 -- any call
+on-view : (b : Bool) (u : LinkUnit) (d : ℕ) (a : Ask) → ltb d doorsN ≡ b → Inv u → (e : ℕ) → e < doorsN → e ≢ d → view (step u (on d a) .unit) e ≡ view u e
+unfolding step stepOn
+on-view true u d a q s e l n = view-on u d s (ltb-true d doorsN q) a e l n
+on-view false u d a q s e l n = rw q refl
+
+-- a call changes its own door's view alone
+pub view-step : (u : LinkUnit) (d : ℕ) (a : Ask) → Inv u → (e : ℕ) → e < doorsN → e ≢ d → view (step u (on d a) .unit) e ≡ view u e
+view-step u d a s e l n = on-view (ltb d doorsN) u d a refl s e l n
+
 on-inv : (b : Bool) (u : LinkUnit) (d : ℕ) (a : Ask) → ltb d doorsN ≡ b → Inv u → Inv (step u (on d a) .unit)
 unfolding step stepOn
 on-inv true u d a e s = inv-on u d s (ltb-true d doorsN e) a
@@ -93,15 +102,6 @@ pub inv-after : (u : LinkUnit) → Inv u → (cs : List Call) → Inv (after u c
 unfolding after
 inv-after u s [] = s
 inv-after u s (c ∷ cs) = inv-after (step u c .unit) (inv-step u c s) cs
-
-on-view : (b : Bool) (u : LinkUnit) (d : ℕ) (a : Ask) → ltb d doorsN ≡ b → Inv u → (e : ℕ) → e < doorsN → e ≢ d → view (step u (on d a) .unit) e ≡ view u e
-unfolding step stepOn
-on-view true u d a q s e l n = view-on u d s (ltb-true d doorsN q) a e l n
-on-view false u d a q s e l n = rw q refl
-
--- a call changes its own door's view alone
-pub view-step : (u : LinkUnit) (d : ℕ) (a : Ask) → Inv u → (e : ℕ) → e < doorsN → e ≢ d → view (step u (on d a) .unit) e ≡ view u e
-view-step u d a s e l n = on-view (ltb d doorsN) u d a refl s e l n
 
 -- a door of the empty unit: Idle, none held, none in hand
 unfoldable pub idleView : Seen
