@@ -1,0 +1,2 @@
+-- The view of what stands at hand.
+pub mod Answers

@@ -1,0 +1,65 @@
+// How the bytes at hand of an Init message stand: readable, incomplete, or past all hope.
+ghost use mathlib.Core.Path.{_≡_};
+ghost use Prim.Native.Nat.{_<_};
+ghost use lib.ListN.{getD};
+ghost use Rattle.init_layout.specs.Reading.{agrees, standing};
+ghost use Rattle.init_progress.specs.Answers.{standingIn};
+
+// How the bytes at hand stand.
+pub enum Progress {
+    Unreadable,
+    Incomplete,
+    Whole(usize),
+}
+
+// The greatest length that is read.
+const MOST: usize = 4096;
+
+fn wide(x: u8) -> usize
+    ensures { λ r. ⌜ (r ≡ x) × (r < 256) ⌝ }
+{
+    x as usize
+}
+
+// Whether the bytes at hand are the magic as far as both go.
+fn begins(magic: &[u8], s: &[u8]) -> bool
+    ensures { λ r. ⌜ r ≡ agrees (now (magic .entry)) (now (s .entry)) ⌝ }
+{
+    if s.len() < magic.len() {
+        return wire::stands_at(magic, 0, s);
+    }
+    wire::stands_at(s, 0, magic)
+}
+
+// How many ciphers Init1 says it has; 0 where its count is not at hand.
+pub fn count_of(s: &[u8]) -> usize
+    ensures { λ r. ⌜ (r ≡ getD (now (s .entry)) 8 0) × (r < 256) ⌝ }
+{
+    if s.len() <= 8 {
+        return 0;
+    }
+    wide(s[8])
+}
+
+// How the bytes at hand stand, for a magic and for fields that end at a place.
+pub fn settle(magic: &[u8], fields: usize, s: &[u8]) -> Progress
+    ensures { λ r. ⌜ standingIn r ≡ standing (now (magic .entry)) fields (now (s .entry)) ⌝ }
+{
+    if !begins(magic, s) {
+        return Progress::Unreadable;
+    }
+    let n = wire::read_u32(s, 4) as usize;
+    if MOST < n {
+        return Progress::Unreadable;
+    }
+    if s.len() < 8 {
+        return Progress::Incomplete;
+    }
+    if n < fields {
+        return Progress::Unreadable;
+    }
+    if s.len() < n {
+        return Progress::Incomplete;
+    }
+    Progress::Whole(n)
+}

@@ -1,0 +1,134 @@
+-- Laws of the readers' steps: the ciphers, nonce and key. Assumes nothing.
+use Prim.Native.Nat.{ℕ, suc, _+_, _*_, _-_, _≤_, _<_}
+use mathlib.Core.Path.{_≡_, refl, sym, _∙_, ap}
+use mathlib.Core.List.{List, _++_, append-nil}
+use mathlib.Core.Bool.{Bool, true, false, cond, _||_}
+use mathlib.Core.Option.{none, some}
+use native.Mathlib.Nat.{zero-add}
+use native.Mathlib.Numerals.{add-one}
+use native.Mathlib.Omega.{arith}
+use borrow.Author.Tests.{eq-eqb, ne-eqb}
+use lib.ListN.{length, getD, take, drop, replicate, drop-of-length-le, length-replicate, replicate-append-replicate}
+use lib.Seq.{drop-cons, drop-at}
+use Rattle.wire.specs.Bytes.{pasted, part, bytesFrom}
+use Rattle.wire.specs.ByteLaws.{pasted-fits, length-part, bytes-from-part}
+use Rattle.wire.specs.Number.{numberAt}
+use Rattle.eno.specs.Option.{isListed}
+use Rattle.init_layout.specs.Reading.{ciphersAt, firstThat, isEnabled, inInit1, zeros, padded}
+use Rattle.init_layout.specs.declared.Enabled.{Enabled}
+
+-- a cipher that is enabled
+or-false : (b : Bool) → b ≡ b || false
+or-false true = refl
+or-false false = refl
+
+module _ (e : Enabled) (c : ℕ) where
+  pub enabled-1 : c ≡ 1 → e .aes128 ≡ isEnabled e c
+  unfolding isEnabled
+  enabled-1 h = rw h (or-false _ ∙ or-false _)
+
+  pub enabled-2 : c ≡ 2 → e .aes256 ≡ isEnabled e c
+  unfolding isEnabled
+  enabled-2 h = rw h (or-false _)
+
+  pub enabled-16 : c ≡ 16 → e .chacha20 ≡ isEnabled e c
+  unfolding isEnabled
+  enabled-16 h = rw h refl
+
+  pub enabled-none : (c ≡ 1 → ⊥) → (c ≡ 2 → ⊥) → (c ≡ 16 → ⊥) → false ≡ isEnabled e c
+  unfolding isEnabled
+  enabled-none x y z = simp (ne-eqb _ _ x, ne-eqb _ _ y, ne-eqb _ _ z)
+
+-- the first cipher that passes a test, i passed
+module _ (test : ℕ → Bool) (p : List ℕ) (at count : ℕ) where
+  pub record Passed (i next : ℕ) : Type 0 where
+    pub within : i ≤ count
+    pub place : next ≡ at + 2 * i
+    pub left : ℕ
+    pub sum : i + left ≡ count
+    pub later : firstThat test (ciphersAt count p at) ≡ firstThat test (ciphersAt left p next)
+
+  pub passed-start : Passed 0 at
+  passed-start = record { within = omega arith; place = omega arith; left = count; sum = omega arith; later = refl }
+
+  module _ (i next : ℕ) (so-far : Passed i next) where
+    pub passed-all : count ≤ i → none ≡ firstThat test (ciphersAt count p at)
+    unfolding ciphersAt firstThat
+    passed-all h =
+        let e : so-far .left ≡ 0 = omega (arith, so-far .sum) in
+        sym (so-far .later ∙ ap (λ k. firstThat test (ciphersAt k p next)) e)
+
+    module _ (in-list : i < count) (c : ℕ) (is-cipher : c ≡ numberAt 2 p next) where
+      one-more : so-far .left ≡ suc (so-far .left - 1)
+      one-more = omega (arith, so-far .sum)
+
+      pub passed-here : test c ≡ true → some c ≡ firstThat test (ciphersAt count p at)
+      unfolding ciphersAt firstThat
+      passed-here e =
+          sym (so-far .later
+          ∙ (ap (λ k. firstThat test (ciphersAt k p next)) one-more
+          ∙ (ap (λ x. cond (test x) (some x) (firstThat test (ciphersAt (so-far .left - 1) p (next + 2)))) (sym is-cipher)
+          ∙ ap (λ b. cond b (some c) (firstThat test (ciphersAt (so-far .left - 1) p (next + 2)))) e)))
+
+      pub passed-next : test c ≡ false → Passed (i + 1) (next + 2)
+      unfolding ciphersAt firstThat
+      passed-next e =
+          record {
+            within = omega arith;
+            place = omega (arith, so-far .place);
+            left = so-far .left - 1;
+            sum = omega (arith, so-far .sum);
+            later =
+                so-far .later
+                ∙ (ap (λ k. firstThat test (ciphersAt k p next)) one-more
+                ∙ (ap (λ x. cond (test x) (some x) (firstThat test (ciphersAt (so-far .left - 1) p (next + 2)))) (sym is-cipher)
+                ∙ ap (λ b. cond b (some c) (firstThat test (ciphersAt (so-far .left - 1) p (next + 2)))) e));
+          }
+
+-- a cipher in a list, i passed
+module _ (l : List ℕ) (c i : ℕ) (so-far : inInit1 l c ≡ inInit1 (drop i l) c) where
+  pub listed-nowhere : length l ≤ i → false ≡ inInit1 l c
+  unfolding inInit1 isListed
+  listed-nowhere h = sym (so-far ∙ ap (λ m. isListed c m) (drop-of-length-le l {i = i} h))
+
+  module _ (in-list : i < length l) where
+    pub listed-here : getD l i 0 ≡ c → true ≡ inInit1 l c
+    unfolding inInit1 isListed
+    listed-here e = sym (so-far ∙ (ap (λ m. isListed c m) (drop-cons l i 0 in-list) ∙ ap (λ b. b || isListed c (drop (suc i) l)) (eq-eqb _ _ e)))
+
+    pub listed-later : (getD l i 0 ≡ c → ⊥) → inInit1 l c ≡ inInit1 (drop (i + 1) l) c
+    unfolding inInit1 isListed
+    listed-later e =
+        so-far
+        ∙ (ap (λ m. isListed c m) (drop-cons l i 0 in-list)
+        ∙ (ap (λ b. b || isListed c (drop (suc i) l)) (ne-eqb _ _ e) ∙ ap (λ k. isListed c (drop k l)) (sym (add-one i))))
+
+-- nonce and key, in arrays of zeros
+drop-zeros : (n k : ℕ) → k ≤ n → drop k (replicate {A = ℕ} n 0) ≡ zeros (n - k)
+unfolding zeros
+drop-zeros n k h =
+    let e : k + (n - k) ≡ n = omega arith in
+    ap (λ j. drop k (replicate {A = ℕ} j 0)) (sym e)
+    ∙ (ap (drop k) (sym (replicate-append-replicate k (n - k) 0)) ∙ drop-at (replicate {A = ℕ} k 0) (replicate (n - k) 0) k (length-replicate k 0))
+
+filled : (n : ℕ) (v : List ℕ) → length v ≤ n → pasted (replicate n 0) 0 v ≡ v ++ zeros (n - length v)
+filled n v h =
+    pasted-fits (replicate n 0) 0 v (omega (arith, length-replicate {A = ℕ} n 0))
+    ∙ ap (λ l. v ++ l) (ap (λ k. drop k (replicate {A = ℕ} n 0)) (zero-add (length v)) ∙ drop-zeros n (length v) h)
+
+module _ (s t : List ℕ) (at : ℕ) where
+  pub nonce-filled : at + 32 ≤ length s → t ≡ pasted (replicate 32 0) 0 (take (at + 32 - at) (drop at s)) → t ≡ bytesFrom 32 s at
+  unfolding part zeros
+  nonce-filled h e =
+      let v = take 32 (drop at s) in
+      let n : length v ≡ 32 = length-part at 32 s h in
+      let w : at + 32 - at ≡ 32 = omega arith in
+      e ∙ (ap (λ k. pasted (replicate 32 0) 0 (take k (drop at s))) w ∙ filled 32 v (omega arith) ∙ (ap (λ k. v ++ zeros (32 - k)) n ∙ (append-nil v ∙ sym (bytes-from-part 32 s at h))))
+
+  pub key-filled : (keys : ℕ) → at + keys ≤ length s → keys ≤ 56 → t ≡ pasted (replicate 56 0) 0 (take (at + keys - at) (drop at s)) → t ≡ padded (bytesFrom keys s at)
+  unfolding part padded
+  key-filled keys h k e =
+      let v = take keys (drop at s) in
+      let n : length v ≡ keys = length-part at keys s h in
+      let w : at + keys - at ≡ keys = omega arith in
+      e ∙ (ap (λ j. pasted (replicate 56 0) 0 (take j (drop at s))) w ∙ filled 56 v (omega arith) ∙ ap (λ l. l ++ zeros (56 - length l)) (sym (bytes-from-part keys s at h)))

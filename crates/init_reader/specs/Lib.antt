@@ -1,0 +1,2 @@
+-- The view of the cipher taken.
+pub mod Answers

@@ -1,0 +1,189 @@
+-- Laws of the two writers' ways out. Assumes nothing.
+use Prim.Native.Nat.{ℕ, _+_, _*_, _≤_, _<_}
+use mathlib.Core.Path.{_≡_, refl, sym, _∙_, ap}
+use mathlib.Core.List.{List, [], _∷_, _++_, append-assoc, append-nil}
+use mathlib.Core.Bool.{true, false, _&&_}
+use native.Mathlib.Omega.{arith}
+use borrow.Author.Tests.{le-leb, lt-leb}
+use lib.Dec.{leb}
+use lib.ListN.{length, length-append}
+use Rattle.wire.specs.Bytes.{pasted}
+use Rattle.wire.specs.Number.{bigEndian}
+use Rattle.wire.specs.NumberLaws.{length-big}
+use Rattle.eno.specs.Option.{writtenAs, wrote, refusedWith}
+use Rattle.init_layout.specs.Layout.{init1, init2, magicOf, messageWith, countField, cipherBytes, fieldsOf, encoded, init1Bytes, init2Bytes}
+use Rattle.init_layout.specs.LayoutLaws.{length-magic, length-ciphers, length-encoded, length-init1, length-init2}
+use Rattle.init_layout.specs.WritingLaws.{parts}
+use Rattle.init_layout.specs.Refusals.{keys-few}
+use Rattle.init_layout.specs.Writing.{partsFit, writeInit1, writeInit2}
+use Rattle.init_writer.proofs.Putting.{next, says-unfit, says-no-room, says-wrote}
+
+-- the fields in a row
+regroup : (a b c d e f : List ℕ) → a ++ b ++ c ++ d ++ e ++ f ≡ a ++ (b ++ (c ++ (d ++ (e ++ f))))
+regroup a b c d e f = simp append-assoc
+
+regroup5 : (a b d e f : List ℕ) → a ++ b ++ d ++ e ++ f ≡ a ++ (b ++ (d ++ (e ++ f)))
+regroup5 a b d e f = simp append-assoc
+
+module _ (nonce key : List ℕ) (n : ℕ) where
+  joined1 : (ciphers : List ℕ) → length (init1Bytes ciphers nonce key) ≡ n
+      → magicOf init1 ++ bigEndian 4 n ++ (length ciphers ∷ []) ++ cipherBytes ciphers ++ nonce ++ key ≡ init1Bytes ciphers nonce key
+  unfolding init1Bytes encoded fieldsOf countField
+  joined1 ciphers e =
+      let m = messageWith ciphers nonce key [] in
+      regroup (magicOf init1) (bigEndian 4 n) (length ciphers ∷ []) (cipherBytes ciphers) nonce key
+      ∙ (ap (λ k. magicOf init1 ++ (bigEndian 4 n ++ (length ciphers ∷ (cipherBytes ciphers ++ (nonce ++ k))))) (sym (append-nil key))
+      ∙ ap (λ k. magicOf init1 ++ (bigEndian 4 k ++ fieldsOf init1 m)) (sym e ∙ length-encoded init1 m))
+
+  joined2 : (cipher : ℕ) → length (init2Bytes cipher nonce key) ≡ n
+      → magicOf init2 ++ bigEndian 4 n ++ bigEndian 2 cipher ++ nonce ++ key ≡ init2Bytes cipher nonce key
+  unfolding init2Bytes encoded fieldsOf countField cipherBytes
+  joined2 cipher e =
+      let m = messageWith (cipher ∷ []) nonce key [] in
+      regroup5 (magicOf init2) (bigEndian 4 n) (bigEndian 2 cipher) nonce key
+      ∙ (ap (λ k. magicOf init2 ++ (bigEndian 4 n ++ (bigEndian 2 cipher ++ (nonce ++ k)))) (sym (append-nil key))
+      ∙ (ap (λ k. magicOf init2 ++ (bigEndian 4 n ++ (k ++ (nonce ++ (key ++ []))))) (sym (append-nil (bigEndian 2 cipher)))
+      ∙ ap (λ k. magicOf init2 ++ (bigEndian 4 k ++ fieldsOf init2 m)) (sym e ∙ length-encoded init2 m)))
+
+-- Init1
+module _ (t : ℕ) (ciphers nonce key s : List ℕ) where
+  pub init1-parts : partsFit t nonce key ≡ false → writtenAs (refusedWith 3) s ≡ writeInit1 t ciphers nonce key s
+  unfolding writeInit1
+  init1-parts e = says-unfit _ (init1Bytes ciphers nonce key) s (ap (λ b. b && leb (length ciphers) 255) e)
+
+  pub init1-many : partsFit t nonce key ≡ true → 255 < length ciphers → writtenAs (refusedWith 3) s ≡ writeInit1 t ciphers nonce key s
+  unfolding writeInit1
+  init1-many e h = says-unfit _ (init1Bytes ciphers nonce key) s (ap (λ b. b && leb (length ciphers) 255) e ∙ lt-leb _ _ h)
+
+  module _ (fit : partsFit t nonce key ≡ true) (few : length ciphers ≤ 255) where
+    all-fit : partsFit t nonce key && leb (length ciphers) 255 ≡ true
+    all-fit = ap (λ b. b && leb (length ciphers) 255) fit ∙ le-leb _ _ few
+
+    pub init1-small : length key ≤ 56
+    init1-small = omega (arith, parts t nonce key fit .key-long, keys-few t)
+
+    long : length (init1Bytes ciphers nonce key) ≡ 9 + 2 * length ciphers + 32 + length key
+    long = length-init1 nonce key (length key) (parts t nonce key fit .nonce-long) refl ciphers
+
+    pub init1-no-room : length s < 9 + 2 * length ciphers + 32 + length key → writtenAs (refusedWith 5) s ≡ writeInit1 t ciphers nonce key s
+    unfolding writeInit1
+    init1-no-room h = says-no-room _ (init1Bytes ciphers nonce key) s all-fit _ long h
+
+    pub init1-wrote : 9 + 2 * length ciphers + 32 + length key ≤ length s
+        → (t1 t2 t3 t4 t5 t6 : List ℕ) → t1 ≡ pasted s 0 (magicOf init1) → t2 ≡ pasted t1 4 (bigEndian 4 (9 + 2 * length ciphers + 32 + length key))
+        → t3 ≡ pasted t2 8 (length ciphers ∷ []) → t4 ≡ pasted t3 9 (cipherBytes ciphers) → t5 ≡ pasted t4 (9 + 2 * length ciphers) nonce
+        → t6 ≡ pasted t5 (9 + 2 * length ciphers + 32) key → writtenAs (wrote (9 + 2 * length ciphers + 32 + length key)) t6 ≡ writeInit1 t ciphers nonce key s
+    unfolding writeInit1
+    init1-wrote room t1 t2 t3 t4 t5 t6 e1 e2 e3 e4 e5 e6 =
+        says-wrote _ (init1Bytes ciphers nonce key) s all-fit n long room t6
+        (next s (a ++ b ++ c ++ d ++ nonce) t5 key t6 (9 + 2 * length ciphers + 32)
+        (next s (a ++ b ++ c ++ d) t4 nonce t5 (9 + 2 * length ciphers)
+        (next s (a ++ b ++ c) t3 d t4 9
+        (next s (a ++ b) t2 c t3 8
+        (next s a t1 b t2 4 e1 (sym la) (omega (arith, lb)) e2)
+        (omega (arith, la, lb, lab)) (omega arith) e3)
+        (omega (arith, la, lb, lab, labc)) (omega (arith, ld)) e4)
+        (omega (arith, la, lb, ld, lab, labc, labcd)) (omega (arith, nonce-long)) e5)
+        (omega (arith, la, lb, ld, lab, labc, labcd, length-append (a ++ b ++ c ++ d) nonce, nonce-long)) room e6
+        ∙ ap (pasted s 0) joined)
+      where
+        n : ℕ
+        n = 9 + 2 * length ciphers + 32 + length key
+
+        a : List ℕ
+        a = magicOf init1
+
+        b : List ℕ
+        b = bigEndian 4 n
+
+        c : List ℕ
+        c = length ciphers ∷ []
+
+        d : List ℕ
+        d = cipherBytes ciphers
+
+        nonce-long : length nonce ≡ 32
+        nonce-long = parts t nonce key fit .nonce-long
+
+        la : length a ≡ 4
+        la = length-magic init1
+
+        lb : length b ≡ 4
+        lb = length-big 4 n
+
+        ld : length d ≡ 2 * length ciphers
+        ld = length-ciphers ciphers
+
+        lab : length (a ++ b) ≡ length a + length b
+        lab = length-append a b
+
+        labc : length (a ++ b ++ c) ≡ length (a ++ b) + 1
+        labc = length-append (a ++ b) c
+
+        labcd : length (a ++ b ++ c ++ d) ≡ length (a ++ b ++ c) + length d
+        labcd = length-append (a ++ b ++ c) d
+
+        joined : a ++ b ++ c ++ d ++ nonce ++ key ≡ init1Bytes ciphers nonce key
+        joined = joined1 nonce key n ciphers long
+
+-- Init2
+module _ (t cipher : ℕ) (nonce key s : List ℕ) where
+  pub init2-parts : partsFit t nonce key ≡ false → writtenAs (refusedWith 3) s ≡ writeInit2 t cipher nonce key s
+  unfolding writeInit2
+  init2-parts e = says-unfit _ (init2Bytes cipher nonce key) s e
+
+  module _ (fit : partsFit t nonce key ≡ true) where
+    pub init2-small : length key ≤ 56
+    init2-small = omega (arith, parts t nonce key fit .key-long, keys-few t)
+
+    long2 : length (init2Bytes cipher nonce key) ≡ 42 + length key
+    long2 = length-init2 nonce key (length key) (parts t nonce key fit .nonce-long) refl cipher
+
+    pub init2-no-room : length s < 42 + length key → writtenAs (refusedWith 5) s ≡ writeInit2 t cipher nonce key s
+    unfolding writeInit2
+    init2-no-room h = says-no-room _ (init2Bytes cipher nonce key) s fit _ long2 h
+
+    pub init2-wrote : 42 + length key ≤ length s
+        → (t1 t2 t3 t4 t5 : List ℕ) → t1 ≡ pasted s 0 (magicOf init2) → t2 ≡ pasted t1 4 (bigEndian 4 (42 + length key)) → t3 ≡ pasted t2 8 (bigEndian 2 cipher)
+        → t4 ≡ pasted t3 10 nonce → t5 ≡ pasted t4 42 key → writtenAs (wrote (42 + length key)) t5 ≡ writeInit2 t cipher nonce key s
+    unfolding writeInit2
+    init2-wrote room t1 t2 t3 t4 t5 e1 e2 e3 e4 e5 =
+        says-wrote _ (init2Bytes cipher nonce key) s fit n long2 room t5
+        (next s (a ++ b ++ d ++ nonce) t4 key t5 42
+        (next s (a ++ b ++ d) t3 nonce t4 10
+        (next s (a ++ b) t2 d t3 8
+        (next s a t1 b t2 4 e1 (sym la) (omega (arith, lb)) e2)
+        (omega (arith, la, lb, lab)) (omega (arith, ld)) e3)
+        (omega (arith, la, lb, lab, ld, labd)) (omega (arith, nonce-long)) e4)
+        (omega (arith, la, lb, ld, lab, labd, length-append (a ++ b ++ d) nonce, nonce-long)) room e5
+        ∙ ap (pasted s 0) (joined2 nonce key n cipher long2))
+      where
+        n : ℕ
+        n = 42 + length key
+
+        a : List ℕ
+        a = magicOf init2
+
+        b : List ℕ
+        b = bigEndian 4 n
+
+        d : List ℕ
+        d = bigEndian 2 cipher
+
+        nonce-long : length nonce ≡ 32
+        nonce-long = parts t nonce key fit .nonce-long
+
+        la : length a ≡ 4
+        la = length-magic init2
+
+        lb : length b ≡ 4
+        lb = length-big 4 n
+
+        ld : length d ≡ 2
+        ld = length-big 2 cipher
+
+        lab : length (a ++ b) ≡ length a + length b
+        lab = length-append a b
+
+        labd : length (a ++ b ++ d) ≡ length (a ++ b) + length d
+        labd = length-append (a ++ b) d

@@ -1,0 +1,90 @@
+// Init1 and Init2, written.
+use eno::Tep;
+use init_layout::InitWritten;
+ghost use mathlib.Core.Path.{_≡_};
+ghost use Prim.Native.Nat.{_+_, _*_, _≤_};
+ghost use lib.ListN.{length};
+ghost use Rattle.wire.specs.Bytes.{pasted};
+ghost use Rattle.eno.specs.Option.{writtenAs};
+ghost use Rattle.init_layout.specs.Layout.{cipherBytes};
+ghost use Rattle.init_layout.specs.Writing.{partsFit, writeInit1, writeInit2};
+ghost use Rattle.init_layout.specs.Answers.{writingOf};
+
+// Whether TEP, nonce and key fit each other.
+fn parts_fit(tep: u8, nonce: &[u8], key: &[u8]) -> bool
+    ensures { λ r. ⌜ r ≡ partsFit tep (now (nonce .entry)) (now (key .entry)) ⌝ }
+{
+    let named = Tep::of(tep);
+    let long = named.key_length;
+    if long == 0 {
+        return false;
+    }
+    if nonce.len() != 32 {
+        return false;
+    }
+    key.len() == long
+}
+
+// Writes the ciphers, two bytes each.
+fn put_ciphers(s: &mut [u8], at: usize, ciphers: &[u16])
+    requires { ⌜ at + 2 * length (now ciphers) ≤ length (now s) ⌝ }
+    ensures { λ _. ⌜ now (s .exit) ≡ pasted (now (s .entry)) at (cipherBytes (now (ciphers .entry))) ⌝ }
+{
+    let mut i = 0;
+    let mut next = at;
+    while i < ciphers.len() {
+        wire::write_u16(s, next, ciphers[i]);
+        i += 1;
+        next += 2;
+    }
+}
+
+// Init1: the ciphers that A offers, in its order of preference, its nonce and its public key.
+pub fn init1_write(
+    tep: u8,
+    ciphers: &[u16],
+    nonce: &[u8],
+    key: &[u8],
+    out: &mut [u8],
+) -> InitWritten
+    ensures { λ r. ⌜ writtenAs (writingOf r) (now (out .exit)) ≡ writeInit1 tep (now (ciphers .entry)) (now (nonce .entry)) (now (key .entry)) (now (out .entry)) ⌝ }
+{
+    if !parts_fit(tep, nonce, key) {
+        return InitWritten::Unfit;
+    }
+    if 255 < ciphers.len() {
+        return InitWritten::Unfit;
+    }
+    let at = 9 + 2 * ciphers.len();
+    let n = at + 32 + key.len();
+    if out.len() < n {
+        return InitWritten::NoRoom;
+    }
+    let count = [ciphers.len() as u8];
+    wire::copy(out, 0, b"\x15\x10\x1a\x0e");
+    wire::write_u32(out, 4, n as u32);
+    wire::copy(out, 8, &count);
+    put_ciphers(out, 9, ciphers);
+    wire::copy(out, at, nonce);
+    wire::copy(out, at + 32, key);
+    InitWritten::Written(n)
+}
+
+// Init2: the cipher that B takes, its nonce and its public key.
+pub fn init2_write(tep: u8, cipher: u16, nonce: &[u8], key: &[u8], out: &mut [u8]) -> InitWritten
+    ensures { λ r. ⌜ writtenAs (writingOf r) (now (out .exit)) ≡ writeInit2 tep cipher (now (nonce .entry)) (now (key .entry)) (now (out .entry)) ⌝ }
+{
+    if !parts_fit(tep, nonce, key) {
+        return InitWritten::Unfit;
+    }
+    let whole = 42 + key.len();
+    if out.len() < whole {
+        return InitWritten::NoRoom;
+    }
+    wire::copy(out, 0, b"\x09\x71\x05\xe0");
+    wire::write_u32(out, 4, whole as u32);
+    wire::write_u16(out, 8, cipher);
+    wire::copy(out, 10, nonce);
+    wire::copy(out, 42, key);
+    InitWritten::Written(whole)
+}
