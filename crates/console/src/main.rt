@@ -1,9 +1,19 @@
 // The console: reads commands from standard input, a line each, runs each on one unit and writes one line for each (docs/CONSOLE.md).
-mod calls;
 mod command;
+mod cursor;
+mod generation_calls;
+mod generation_lines;
 mod input;
-mod reply;
+mod message_calls;
+mod message_lines;
+mod message_replies;
+mod parse;
+mod refused;
 mod text;
+mod unfit;
+mod unit_calls;
+mod unit_lines;
+mod unit_replies;
 mod words;
 
 use command::Command;
@@ -12,7 +22,7 @@ use command::Command;
 const TURNS: u64 = 0x8000_0000_0000_0000;
 
 // Runs the input to its end. A line's bytes go to first, second and third in the order of its words, its lent buffer to lent; the reply is made in out.
-// The unit stands here, and only its calls take it.
+// The unit and the generation record that is lent stand here; only the unit's calls take the unit.
 fn run(
     chunk: &mut [u8],
     line: &mut [u8],
@@ -23,6 +33,7 @@ fn run(
     out: &mut [u8],
 ) {
     let mut unit = link_unit::new();
+    let mut record = generation::first_record();
     let mut place = input::start();
     let mut number: u64 = 0;
     let mut turns = TURNS;
@@ -35,21 +46,24 @@ fn run(
         if place.whole {
             number = std::num::wrapping_add_u64(number, 1);
             let words = text::part(line, place.length);
-            let asked = command::parse(words, place.long, first, second, third, lent);
+            let asked = parse::parse(words, place.long, first, second, third, lent);
             match asked {
                 Command::Nothing => {}
                 Command::Unfit(expected) => {
-                    reply::unfit(out, number, expected);
+                    unfit::unfit(out, number, expected);
                 }
                 Command::Unit(ask) => {
-                    let after = calls::call(unit, ask, first, second, third, lent, out);
+                    let after = unit_calls::call(unit, ask, first, second, third, lent, out);
                     unit = after;
                 }
                 Command::Look(look) => {
-                    calls::look(unit, look, lent, out);
+                    unit_calls::look(unit, look, lent, out);
                 }
-                Command::Find { syn, area } => {
-                    reply::found(out, text::part(first, area), syn);
+                Command::Message(message) => {
+                    message_calls::call(message, first, second, third, lent, out);
+                }
+                Command::Rekeying(step) => {
+                    record = generation_calls::call(record, step, out);
                 }
             }
         }

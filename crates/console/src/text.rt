@@ -1,4 +1,4 @@
-// Parts of buffers, and text put into one: a word, a number, bytes in hex.
+// Parts of buffers, and lines made in one: text, numbers, bytes in hex, and the line's end.
 ghost use mathlib.Core.Path.{_≡_};
 ghost use Prim.Native.Nat.{_≤_, _<_, min};
 ghost use lib.ListN.{length, take};
@@ -11,6 +11,14 @@ pub fn part(s: &[u8], n: usize) -> &[u8]
         return s;
     }
     &s[0..n]
+}
+
+// The bytes of s from a place on; none where it has no more.
+pub fn rest(s: &[u8], at: usize) -> &[u8] {
+    if s.len() < at {
+        return &s[0..0];
+    }
+    &s[at..]
 }
 
 // How many bytes the first n of s are.
@@ -80,4 +88,47 @@ pub fn put_hex(out: &mut [u8], at: usize, bytes: &[u8]) -> usize {
         i += 1;
     }
     end
+}
+
+// Each of these puts a space, then the word.
+pub fn and_number(out: &mut [u8], at: usize, n: u64) -> usize {
+    let next = put(out, at, b" ");
+    put_number(out, next, n)
+}
+
+pub fn and_flag(out: &mut [u8], at: usize, flag: bool) -> usize {
+    if flag {
+        return put(out, at, b" 1");
+    }
+    put(out, at, b" 0")
+}
+
+pub fn and_hex(out: &mut [u8], at: usize, bytes: &[u8]) -> usize {
+    let next = put(out, at, b" ");
+    put_hex(out, next, bytes)
+}
+
+// A cipher is four hex digits.
+pub fn and_cipher(out: &mut [u8], at: usize, cipher: u16) -> usize {
+    let mut bytes = [0u8; 2];
+    wire::write_u16(&mut bytes, 0, cipher);
+    and_hex(out, at, &bytes)
+}
+
+// A word and a number, at the start.
+pub fn put_counted(out: &mut [u8], word: &[u8], n: u64) -> usize {
+    let at = put(out, 0, word);
+    and_number(out, at, n)
+}
+
+// Ends the line and writes it.
+pub fn finish(out: &mut [u8], at: usize, fd: i32) {
+    let end = put(out, at, b"\n");
+    io::write_all(fd, part(out, end));
+}
+
+// A lent buffer stands last in its line.
+pub fn finish_lent(out: &mut [u8], at: usize, lent: &[u8]) {
+    let end = and_hex(out, at, lent);
+    finish(out, end, 1);
 }

@@ -1,20 +1,10 @@
-// The words of a line: each follows one space and runs to the next space or the line's end.
+// A word of a line: it follows one space and runs to the next space or the line's end. Here are the two kinds that others are made of: a number, and bytes in hex.
 ghost use Prim.Native.Nat.{_+_, _≤_, _<_};
 ghost use lib.ListN.{length};
 
 // A word as it is read, with the place after it.
 pub enum Number {
     Read { value: u64, next: usize },
-    Wrong,
-}
-
-pub enum Octet {
-    Read { value: u8, next: usize },
-    Wrong,
-}
-
-pub enum Flag {
-    Read { value: bool, next: usize },
     Wrong,
 }
 
@@ -134,40 +124,6 @@ pub fn read_number(line: &[u8], at: usize) -> Number {
     Number::Read { value, next: i }
 }
 
-// A number to 255.
-pub fn read_small(line: &[u8], at: usize) -> Octet {
-    let read = read_number(line, at);
-    match read {
-        Number::Read { value, next } => {
-            if 255 < value {
-                return Octet::Wrong;
-            }
-            Octet::Read {
-                value: value as u8,
-                next,
-            }
-        }
-        Number::Wrong => Octet::Wrong,
-    }
-}
-
-// 0 or 1.
-pub fn read_flag(line: &[u8], at: usize) -> Flag {
-    let read = read_number(line, at);
-    match read {
-        Number::Read { value, next } => {
-            if 1 < value {
-                return Flag::Wrong;
-            }
-            Flag::Read {
-                value: value == 1,
-                next,
-            }
-        }
-        Number::Wrong => Flag::Wrong,
-    }
-}
-
 // Two hex digits.
 enum Pair {
     Byte(u8),
@@ -186,28 +142,6 @@ fn pair_at(line: &[u8], at: usize) -> Pair
         return Pair::Wrong;
     }
     Pair::Byte(high * 16 + low)
-}
-
-// A byte in hex.
-pub fn read_octet(line: &[u8], at: usize) -> Octet {
-    let first = word_start(line, at);
-    if line.len() < 2 {
-        return Octet::Wrong;
-    }
-    if line.len() - 2 < first {
-        return Octet::Wrong;
-    }
-    let next = first + 2;
-    let pair = pair_at(line, first);
-    match pair {
-        Pair::Byte(value) => {
-            if ends_at(line, next) {
-                return Octet::Read { value, next };
-            }
-            Octet::Wrong
-        }
-        Pair::Wrong => Octet::Wrong,
-    }
 }
 
 // Bytes in hex, put into `into`; - for none.

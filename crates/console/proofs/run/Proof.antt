@@ -1,5 +1,4 @@
 -- `run` is safe and ends. The invariant: each buffer keeps its length. The measure is the number of turns that are left.
--- Below, m is the place after the line's words are read; what each buffer's length is there, and what the call after it leaves, are too far from the end of a turn to be found.
 use borrow.Author.Needs.{needs}
 use mathlib.Core.Path.{_≡_}
 use native.Mathlib.Omega.{arith}
@@ -8,15 +7,46 @@ use Rattle.console.proofs.run.Statement.{statement}
 use Rattle.console.proofs.run.Tie as tie
 
 abbrev Inv-loop : tie.InvT-loop
-Inv-loop chunk₀ line₀ first₀ second₀ third₀ lent₀ out₀ unit₀ place₀ number₀ turns₀ chunk line first second third lent out unit place number turns =
+Inv-loop chunk₀ line₀ first₀ second₀ third₀ lent₀ out₀ unit₀ record₀ place₀ number₀ turns₀ chunk line first second third lent out unit «record» place number turns =
     (length chunk ≡ length chunk₀) × (length line ≡ length line₀) × (length first ≡ length first₀) × (length second ≡ length second₀) × (length third ≡ length third₀) × (length lent ≡ length lent₀) × (length out ≡ length out₀)
 
 abbrev μ-loop : tie.MeasureT-loop
-μ-loop chunk₀ line₀ first₀ second₀ third₀ lent₀ out₀ unit₀ place₀ number₀ turns₀ chunk line first second third lent out unit place number turns =
+μ-loop chunk₀ line₀ first₀ second₀ third₀ lent₀ out₀ unit₀ record₀ place₀ number₀ turns₀ chunk line first second third lent out unit «record» place number turns =
     turns
+
+-- A turn's line is read. From there to the places with the facts that are too far from the end of a turn to be found: the loop's test and invariant, and each buffer's length.
+abbrev Read : Type 0
+Read = tie.After-slice-known13 Inv-loop μ-loop
+
+abbrev chunk-at : Read → tie.After-chunk Inv-loop μ-loop
+chunk-at m = m .before .before .before .before .before .before .before .before .before .before .before .before .before .before .before .before .before .before .before .before
+
+abbrev turn-at : Read → tie.In-loop Inv-loop μ-loop
+turn-at m = (chunk-at m) .before .before .before .before .before
+
+abbrev loop-at : Read → tie.At-loop Inv-loop μ-loop
+loop-at m = (chunk-at m) .before .before .before .before .before .before
+
+abbrev line-at : Read → tie.After-line Inv-loop μ-loop
+line-at m = m .before .before .before .before .before .before .before .before .before .before .before .before .before .before .before .before .before .before
+
+abbrev first-at : Read → tie.After-first Inv-loop μ-loop
+first-at m = m .before .before .before .before .before .before .before
+
+abbrev second-at : Read → tie.After-second Inv-loop μ-loop
+second-at m = m .before .before .before .before .before
+
+abbrev third-at : Read → tie.After-third Inv-loop μ-loop
+third-at m = m .before .before .before
+
+abbrev lent-at : Read → tie.After-lent Inv-loop μ-loop
+lent-at m = m .before
 
 new-requires : tie.Need-new-requires Inv-loop μ-loop
 new-requires c κs = search needs
+
+first-record-requires : tie.Need-first-record-requires Inv-loop μ-loop
+first-record-requires c κs = search needs
 
 start-requires : tie.Need-start-requires Inv-loop μ-loop
 start-requires c κs = search needs
@@ -79,21 +109,19 @@ unfit-requires : tie.Need-unfit-requires Inv-loop μ-loop
 unfit-requires c κs = search needs
 
 loop-less-2 : tie.Need-loop-less-2 Inv-loop μ-loop
-loop-less-2 c =
-    let m = c .before .before .before .before .before .before .before in
-    omega (arith, m .before .before .before .before .before .before .before .before .before .before .before .before .before .before .before .before .before .before .before .before .before .before .before .before .before .loop-test .taken)
+loop-less-2 c = omega (arith, (turn-at (c .before .before .before .before .before .before .before)) .loop-test .taken)
 
 loop-again-2 : tie.Need-loop-again-2 Inv-loop μ-loop
 loop-again-2 c =
     let m = c .before .before .before .before .before .before .before in
-    let i = m .before .before .before .before .before .before .before .before .before .before .before .before .before .before .before .before .before .before .before .before .before .before .before .before .before .before .loop .inv in (
-      omega (arith, m .before .before .before .before .before .before .before .before .before .before .before .before .before .before .before .before .before .before .before .before .chunk .given, i .0),
-      omega (arith, m .before .before .before .before .before .before .before .before .before .before .before .before .before .before .before .before .before .before .line .given, i .1),
-      omega (arith, m .before .before .before .before .before .before .before .first .given, i .2),
-      omega (arith, m .before .before .before .before .before .second .given, i .3),
-      omega (arith, m .before .before .before .third .given, i .4),
-      omega (arith, m .before .lent .given, i .5),
-      omega (arith, c .before .out .given, i .6),
+    let inv = (loop-at m) .loop .inv in (
+      omega (arith, (chunk-at m) .chunk .given, inv .0),
+      omega (arith, (line-at m) .line .given, inv .1),
+      omega (arith, (first-at m) .first .given, inv .2),
+      omega (arith, (second-at m) .second .given, inv .3),
+      omega (arith, (third-at m) .third .given, inv .4),
+      omega (arith, (lent-at m) .lent .given, inv .5),
+      omega (arith, c .before .out .given, inv .6),
     )
 
 enum-known-asked-2 : tie.Need-enum-known-asked-2 Inv-loop μ-loop
@@ -103,21 +131,19 @@ call-requires : tie.Need-call-requires Inv-loop μ-loop
 call-requires c κs = search needs
 
 loop-less-3 : tie.Need-loop-less-3 Inv-loop μ-loop
-loop-less-3 c =
-    let m = c .before .before .before .before .before .before .before .before .before .before .before .before .before in
-    omega (arith, m .before .before .before .before .before .before .before .before .before .before .before .before .before .before .before .before .before .before .before .before .before .before .before .before .before .loop-test .taken)
+loop-less-3 c = omega (arith, (turn-at (c .before .before .before .before .before .before .before .before .before .before .before .before .before)) .loop-test .taken)
 
 loop-again-3 : tie.Need-loop-again-3 Inv-loop μ-loop
 loop-again-3 c =
     let m = c .before .before .before .before .before .before .before .before .before .before .before .before .before in
-    let i = m .before .before .before .before .before .before .before .before .before .before .before .before .before .before .before .before .before .before .before .before .before .before .before .before .before .before .loop .inv in (
-      omega (arith, m .before .before .before .before .before .before .before .before .before .before .before .before .before .before .before .before .before .before .before .before .chunk .given, i .0),
-      omega (arith, m .before .before .before .before .before .before .before .before .before .before .before .before .before .before .before .before .before .before .line .given, i .1),
-      omega (arith, m .before .before .before .before .before .before .before .first .given, i .2),
-      omega (arith, m .before .before .before .before .before .second .given, i .3),
-      omega (arith, m .before .before .before .third .given, i .4),
-      omega (arith, m .before .lent .given, c .before .before .before .lent2 .given, i .5),
-      omega (arith, c .before .out2 .given, i .6),
+    let inv = (loop-at m) .loop .inv in (
+      omega (arith, (chunk-at m) .chunk .given, inv .0),
+      omega (arith, (line-at m) .line .given, inv .1),
+      omega (arith, (first-at m) .first .given, inv .2),
+      omega (arith, (second-at m) .second .given, inv .3),
+      omega (arith, (third-at m) .third .given, inv .4),
+      omega (arith, (lent-at m) .lent .given, c .before .before .before .lent2 .given, inv .5),
+      omega (arith, c .before .out2 .given, inv .6),
     )
 
 enum-known-asked-3 : tie.Need-enum-known-asked-3 Inv-loop μ-loop
@@ -127,55 +153,70 @@ look-requires : tie.Need-look-requires Inv-loop μ-loop
 look-requires c κs = search needs
 
 loop-less-4 : tie.Need-loop-less-4 Inv-loop μ-loop
-loop-less-4 c =
-    let m = c .before .before .before .before .before .before .before .before .before .before in
-    omega (arith, m .before .before .before .before .before .before .before .before .before .before .before .before .before .before .before .before .before .before .before .before .before .before .before .before .before .loop-test .taken)
+loop-less-4 c = omega (arith, (turn-at (c .before .before .before .before .before .before .before .before .before .before)) .loop-test .taken)
 
 loop-again-4 : tie.Need-loop-again-4 Inv-loop μ-loop
 loop-again-4 c =
     let m = c .before .before .before .before .before .before .before .before .before .before in
-    let i = m .before .before .before .before .before .before .before .before .before .before .before .before .before .before .before .before .before .before .before .before .before .before .before .before .before .before .loop .inv in (
-      omega (arith, m .before .before .before .before .before .before .before .before .before .before .before .before .before .before .before .before .before .before .before .before .chunk .given, i .0),
-      omega (arith, m .before .before .before .before .before .before .before .before .before .before .before .before .before .before .before .before .before .before .line .given, i .1),
-      omega (arith, m .before .before .before .before .before .before .before .first .given, i .2),
-      omega (arith, m .before .before .before .before .before .second .given, i .3),
-      omega (arith, m .before .before .before .third .given, i .4),
-      omega (arith, m .before .lent .given, c .before .before .before .lent3 .given, i .5),
-      omega (arith, c .before .out3 .given, i .6),
+    let inv = (loop-at m) .loop .inv in (
+      omega (arith, (chunk-at m) .chunk .given, inv .0),
+      omega (arith, (line-at m) .line .given, inv .1),
+      omega (arith, (first-at m) .first .given, inv .2),
+      omega (arith, (second-at m) .second .given, inv .3),
+      omega (arith, (third-at m) .third .given, inv .4),
+      omega (arith, (lent-at m) .lent .given, c .before .before .before .lent3 .given, inv .5),
+      omega (arith, c .before .out3 .given, inv .6),
     )
 
 enum-known-asked-4 : tie.Need-enum-known-asked-4 Inv-loop μ-loop
 enum-known-asked-4 c = search needs
 
-part-requires-2 : tie.Need-part-requires-2 Inv-loop μ-loop
-part-requires-2 c κs = search needs
-
-found-requires : tie.Need-found-requires Inv-loop μ-loop
-found-requires c κs = search needs
+call-requires-2 : tie.Need-call-requires-2 Inv-loop μ-loop
+call-requires-2 c κs = search needs
 
 loop-less-5 : tie.Need-loop-less-5 Inv-loop μ-loop
-loop-less-5 c =
-    let m = c .before .before .before .before .before .before .before .before .before in
-    omega (arith, m .before .before .before .before .before .before .before .before .before .before .before .before .before .before .before .before .before .before .before .before .before .before .before .before .before .loop-test .taken)
+loop-less-5 c = omega (arith, (turn-at (c .before .before .before .before .before .before .before .before .before .before .before .before .before)) .loop-test .taken)
 
 loop-again-5 : tie.Need-loop-again-5 Inv-loop μ-loop
 loop-again-5 c =
-    let m = c .before .before .before .before .before .before .before .before .before in
-    let i = m .before .before .before .before .before .before .before .before .before .before .before .before .before .before .before .before .before .before .before .before .before .before .before .before .before .before .loop .inv in (
-      omega (arith, m .before .before .before .before .before .before .before .before .before .before .before .before .before .before .before .before .before .before .before .before .chunk .given, i .0),
-      omega (arith, m .before .before .before .before .before .before .before .before .before .before .before .before .before .before .before .before .before .before .line .given, i .1),
-      omega (arith, m .before .before .before .before .before .before .before .first .given, i .2),
-      omega (arith, m .before .before .before .before .before .second .given, i .3),
-      omega (arith, m .before .before .before .third .given, i .4),
-      omega (arith, m .before .lent .given, i .5),
-      omega (arith, c .before .out4 .given, i .6),
+    let m = c .before .before .before .before .before .before .before .before .before .before .before .before .before in
+    let inv = (loop-at m) .loop .inv in (
+      omega (arith, (chunk-at m) .chunk .given, inv .0),
+      omega (arith, (line-at m) .line .given, inv .1),
+      omega (arith, (first-at m) .first .given, inv .2),
+      omega (arith, (second-at m) .second .given, inv .3),
+      omega (arith, (third-at m) .third .given, inv .4),
+      omega (arith, (lent-at m) .lent .given, c .before .before .before .lent4 .given, inv .5),
+      omega (arith, c .before .out4 .given, inv .6),
     )
 
+enum-known-asked-5 : tie.Need-enum-known-asked-5 Inv-loop μ-loop
+enum-known-asked-5 c = search needs
+
+call-requires-3 : tie.Need-call-requires-3 Inv-loop μ-loop
+call-requires-3 c κs = search needs
+
 loop-less-6 : tie.Need-loop-less-6 Inv-loop μ-loop
-loop-less-6 c = search needs
+loop-less-6 c = omega (arith, (turn-at (c .before .before .before .before .before .before .before)) .loop-test .taken)
 
 loop-again-6 : tie.Need-loop-again-6 Inv-loop μ-loop
-loop-again-6 c = search needs
+loop-again-6 c =
+    let m = c .before .before .before .before .before .before .before in
+    let inv = (loop-at m) .loop .inv in (
+      omega (arith, (chunk-at m) .chunk .given, inv .0),
+      omega (arith, (line-at m) .line .given, inv .1),
+      omega (arith, (first-at m) .first .given, inv .2),
+      omega (arith, (second-at m) .second .given, inv .3),
+      omega (arith, (third-at m) .third .given, inv .4),
+      omega (arith, (lent-at m) .lent .given, inv .5),
+      omega (arith, c .before .out5 .given, inv .6),
+    )
+
+loop-less-7 : tie.Need-loop-less-7 Inv-loop μ-loop
+loop-less-7 c = search needs
+
+loop-again-7 : tie.Need-loop-again-7 Inv-loop μ-loop
+loop-again-7 c = search needs
 
 same-length-8 : tie.Need-same-length-8 Inv-loop μ-loop
 same-length-8 c = search needs
@@ -208,6 +249,7 @@ run-spec =
     Inv-loop
     μ-loop
     new-requires
+    first-record-requires
     start-requires
     loop-holds
     same-length
@@ -239,12 +281,15 @@ run-spec =
     loop-less-4
     loop-again-4
     enum-known-asked-4
-    part-requires-2
-    found-requires
+    call-requires-2
     loop-less-5
     loop-again-5
+    enum-known-asked-5
+    call-requires-3
     loop-less-6
     loop-again-6
+    loop-less-7
+    loop-again-7
     same-length-8
     same-length-9
     same-length-10

@@ -1,9 +1,9 @@
 // The calls on the unit: each is made with the words of its line, and its reply is written.
 use crate::command::Ask;
 use crate::command::Look;
-use crate::reply;
 use crate::text::part;
 use crate::text::within;
+use crate::unit_replies;
 use unit::LinkUnit;
 
 // Makes a call and writes its reply; the unit afterwards. The bytes of its words stand in first, second and third, in order, and its buffer in lent.
@@ -40,7 +40,7 @@ pub fn call(
                 &mut lent[0..n],
             );
             let answer = told.reply;
-            reply::with_buffer(out, answer, part(lent, room));
+            unit_replies::with_buffer(out, answer, part(lent, room));
             told.unit
         }
         Ask::Answer {
@@ -64,7 +64,7 @@ pub fn call(
                 &mut lent[0..n],
             );
             let answer = told.reply;
-            reply::with_buffer(out, answer, part(lent, room));
+            unit_replies::with_buffer(out, answer, part(lent, room));
             told.unit
         }
         Ask::Receive {
@@ -75,13 +75,13 @@ pub fn call(
         } => {
             let told = link_unit::receive(unit, door, syn, ack, part(first, area));
             let answer = told.reply;
-            reply::plainly(out, answer, b"");
+            unit_replies::plainly(out, answer, b"");
             told.unit
         }
         Ask::Close { door } => {
             let told = link_unit::close(unit, door);
             let answer = told.reply;
-            reply::plainly(out, answer, b"closed");
+            unit_replies::plainly(out, answer, b"closed");
             told.unit
         }
         Ask::Store {
@@ -100,7 +100,7 @@ pub fn call(
                 part(second, secret),
             );
             let answer = told.reply;
-            reply::plainly(out, answer, b"stored");
+            unit_replies::plainly(out, answer, b"stored");
             told.unit
         }
         Ask::Forget {
@@ -110,13 +110,13 @@ pub fn call(
         } => {
             let told = link_unit::forget(unit, door, tep, part(first, identifier));
             let answer = told.reply;
-            reply::plainly(out, answer, b"forgotten");
+            unit_replies::plainly(out, answer, b"forgotten");
             told.unit
         }
         Ask::Erase => {
             let told = link_unit::erase(unit);
             let answer = told.reply;
-            reply::plainly(out, answer, b"erased");
+            unit_replies::plainly(out, answer, b"erased");
             told.unit
         }
     }
@@ -129,19 +129,19 @@ pub fn look(unit: LinkUnit, asked: Look, lent: &mut [u8], out: &mut [u8]) {
             let n = within(room, lent);
             let told = link_unit::resend(unit, door, &mut lent[0..n]);
             let answer = told.reply;
-            reply::with_buffer(out, answer, part(lent, room));
+            unit_replies::with_buffer(out, answer, part(lent, room));
         }
         Look::Result { door, room } => {
             let n = within(room, lent);
             let told = link_unit::result(unit, door, &mut lent[0..n]);
             let answer = told.reply;
             let secret = told.secret;
-            reply::with_secret(out, answer, secret, part(lent, room));
+            unit_replies::with_secret(out, answer, secret, part(lent, room));
         }
         Look::Count { door } => {
             let told = link_unit::count(unit, door);
             let answer = told.reply;
-            reply::plainly(out, answer, b"");
+            unit_replies::plainly(out, answer, b"");
         }
     }
 }

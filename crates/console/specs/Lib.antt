@@ -1,0 +1,2 @@
+-- The console: the numbers that it prints behind `refused`.
+pub mod Refused

@@ -1,0 +1,170 @@
+// The lines that make a call on the unit: their words, in order.
+use crate::command::Ask;
+use crate::command::Command;
+use crate::command::Look;
+use crate::command::Name;
+use crate::cursor::Cursor;
+use crate::cursor::bytes;
+use crate::cursor::ended;
+use crate::cursor::flag;
+use crate::cursor::number;
+use crate::cursor::octet;
+use crate::cursor::small;
+
+pub fn offer(
+    line: &[u8],
+    at: Cursor,
+    first: &mut [u8],
+    second: &mut [u8],
+    lent: &mut [u8],
+) -> Command {
+    let door = number(line, at, Name::Door);
+    let b = small(line, door.next, Name::B);
+    let aware = flag(line, b.next, Name::A);
+    let mandatory = flag(line, aware.next, Name::Mandatory);
+    let teps = bytes(line, mandatory.next, Name::Teps, first);
+    let resume = flag(line, teps.next, Name::Resume);
+    let nonce = bytes(line, resume.next, Name::Nonce, second);
+    let room = bytes(line, nonce.next, Name::Buf, lent);
+    let ask = Ask::Offer {
+        door: door.value as usize,
+        b: b.value,
+        aware: aware.value,
+        mandatory: mandatory.value,
+        teps: teps.length,
+        resume: resume.value,
+        nonce: nonce.length,
+        room: room.length,
+    };
+    ended(line, room.next, Command::Unit(ask))
+}
+
+// The words of an answer after its area.
+fn answer_to(
+    line: &[u8],
+    at: Cursor,
+    door: usize,
+    area: usize,
+    second: &mut [u8],
+    third: &mut [u8],
+    lent: &mut [u8],
+) -> Command {
+    let aware = flag(line, at, Name::A);
+    let mandatory = flag(line, aware.next, Name::Mandatory);
+    let teps = bytes(line, mandatory.next, Name::Teps, second);
+    let nonce = bytes(line, teps.next, Name::Nonce, third);
+    let room = bytes(line, nonce.next, Name::Buf, lent);
+    let ask = Ask::Answer {
+        door,
+        area,
+        aware: aware.value,
+        mandatory: mandatory.value,
+        teps: teps.length,
+        nonce: nonce.length,
+        room: room.length,
+    };
+    ended(line, room.next, Command::Unit(ask))
+}
+
+pub fn answer(
+    line: &[u8],
+    at: Cursor,
+    first: &mut [u8],
+    second: &mut [u8],
+    third: &mut [u8],
+    lent: &mut [u8],
+) -> Command {
+    let door = number(line, at, Name::Door);
+    let area = bytes(line, door.next, Name::Area, first);
+    answer_to(
+        line,
+        area.next,
+        door.value as usize,
+        area.length,
+        second,
+        third,
+        lent,
+    )
+}
+
+pub fn receive(line: &[u8], at: Cursor, first: &mut [u8]) -> Command {
+    let door = number(line, at, Name::Door);
+    let syn = flag(line, door.next, Name::Syn);
+    let ack = flag(line, syn.next, Name::Ack);
+    let area = bytes(line, ack.next, Name::Area, first);
+    let ask = Ask::Receive {
+        door: door.value as usize,
+        syn: syn.value,
+        ack: ack.value,
+        area: area.length,
+    };
+    ended(line, area.next, Command::Unit(ask))
+}
+
+pub fn resend(line: &[u8], at: Cursor, lent: &mut [u8]) -> Command {
+    let door = number(line, at, Name::Door);
+    let room = bytes(line, door.next, Name::Buf, lent);
+    let look = Look::Resend {
+        door: door.value as usize,
+        room: room.length,
+    };
+    ended(line, room.next, Command::Look(look))
+}
+
+pub fn result(line: &[u8], at: Cursor, lent: &mut [u8]) -> Command {
+    let door = number(line, at, Name::Door);
+    let room = bytes(line, door.next, Name::Buf, lent);
+    let look = Look::Result {
+        door: door.value as usize,
+        room: room.length,
+    };
+    ended(line, room.next, Command::Look(look))
+}
+
+pub fn close(line: &[u8], at: Cursor) -> Command {
+    let door = number(line, at, Name::Door);
+    let ask = Ask::Close {
+        door: door.value as usize,
+    };
+    ended(line, door.next, Command::Unit(ask))
+}
+
+pub fn store(line: &[u8], at: Cursor, first: &mut [u8], second: &mut [u8]) -> Command {
+    let door = number(line, at, Name::Door);
+    let tep = octet(line, door.next, Name::Tep);
+    let role = small(line, tep.next, Name::Role);
+    let identifier = bytes(line, role.next, Name::Identifier, first);
+    let secret = bytes(line, identifier.next, Name::Secret, second);
+    let ask = Ask::Store {
+        door: door.value as usize,
+        tep: tep.value,
+        role: role.value,
+        identifier: identifier.length,
+        secret: secret.length,
+    };
+    ended(line, secret.next, Command::Unit(ask))
+}
+
+pub fn forget(line: &[u8], at: Cursor, first: &mut [u8]) -> Command {
+    let door = number(line, at, Name::Door);
+    let tep = octet(line, door.next, Name::Tep);
+    let identifier = bytes(line, tep.next, Name::Identifier, first);
+    let ask = Ask::Forget {
+        door: door.value as usize,
+        tep: tep.value,
+        identifier: identifier.length,
+    };
+    ended(line, identifier.next, Command::Unit(ask))
+}
+
+pub fn count(line: &[u8], at: Cursor) -> Command {
+    let door = number(line, at, Name::Door);
+    let look = Look::Count {
+        door: door.value as usize,
+    };
+    ended(line, door.next, Command::Look(look))
+}
+
+pub fn erase(line: &[u8], at: Cursor) -> Command {
+    ended(line, at, Command::Unit(Ask::Erase))
+}
