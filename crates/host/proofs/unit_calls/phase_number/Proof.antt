@@ -1,10 +1,10 @@
--- `host::phase_number` meets its contract.
+-- `unit_calls::phase_number` meets its contract.
 use Rattle.door.specs.Door.{phaseNumber}
 use borrow.Author.Needs.{needs}
-use Rattle.host.proofs.phase_number.Statement.{statement}
-use Rattle.host.proofs.phase_number.Tie as tie
-use Rattle.host.proofs.phase_number.Reads as reads
-use Rattle.host.proofs.phase_number.Lts as lts
+use Rattle.host.proofs.unit_calls.phase_number.Statement.{statement}
+use Rattle.host.proofs.unit_calls.phase_number.Tie as tie
+use Rattle.host.proofs.unit_calls.phase_number.Reads as reads
+use Rattle.host.proofs.unit_calls.phase_number.Lts as lts
 
 enum-told : tie.Need-enum-told
 enum-told c = search needs

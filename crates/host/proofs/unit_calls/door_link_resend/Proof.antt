@@ -1,11 +1,11 @@
--- `host::door_link_resend` meets its contract.
+-- `unit_calls::door_link_resend` meets its contract.
 use Rattle.host.proofs.Giving.{gives}
 use borrow.Author.Needs.{needs}
-use Rattle.host.proofs.door_link_resend.Statement.{statement}
-use Rattle.host.proofs.door_link_resend.Tie as tie
-use Rattle.host.proofs.door_link_resend.Reads as reads
-use Rattle.host.proofs.door_link_resend.Lts as lts
-use Rattle.host.proofs.reply_numbers.Reads as reply-numbers-reads
+use Rattle.host.proofs.unit_calls.door_link_resend.Statement.{statement}
+use Rattle.host.proofs.unit_calls.door_link_resend.Tie as tie
+use Rattle.host.proofs.unit_calls.door_link_resend.Reads as reads
+use Rattle.host.proofs.unit_calls.door_link_resend.Lts as lts
+use Rattle.host.proofs.unit_calls.reply_numbers.Reads as reply-numbers-reads
 use Rattle.link_unit.proofs.resend.Reads as resend-reads
 
 resend-requires : tie.Need-resend-requires

@@ -1,14 +1,14 @@
--- `host::reply_numbers` meets its contract.
+-- `unit_calls::reply_numbers` meets its contract.
 use mathlib.Core.Bool.{true, false}
 use Rattle.host.proofs.Numbering.{refused-numbers, written-numbers, plain-numbers, now-numbers, encrypted-numbers, done-numbers, holds-numbers}
 use borrow.Author.Needs.{needs}
-use Rattle.host.proofs.reply_numbers.Statement.{statement}
-use Rattle.host.proofs.reply_numbers.Tie as tie
-use Rattle.host.proofs.reply_numbers.Reads as reads
-use Rattle.host.proofs.reply_numbers.Lts as lts
+use Rattle.host.proofs.unit_calls.reply_numbers.Statement.{statement}
+use Rattle.host.proofs.unit_calls.reply_numbers.Tie as tie
+use Rattle.host.proofs.unit_calls.reply_numbers.Reads as reads
+use Rattle.host.proofs.unit_calls.reply_numbers.Lts as lts
 use Rattle.host.proofs.of_kind.Reads as of-kind-reads
-use Rattle.host.proofs.phase_number.Reads as phase-number-reads
-use Rattle.host.proofs.refusal_number.Reads as refusal-number-reads
+use Rattle.host.proofs.unit_calls.phase_number.Reads as phase-number-reads
+use Rattle.host.proofs.unit_calls.refusal_number.Reads as refusal-number-reads
 use Rattle.host.proofs.wide.Reads as wide-reads
 
 enum-known-reply : tie.Need-enum-known-reply

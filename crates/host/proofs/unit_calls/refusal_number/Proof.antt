@@ -1,9 +1,9 @@
--- `host::refusal_number` meets its contract.
+-- `unit_calls::refusal_number` meets its contract.
 use borrow.Author.Needs.{needs}
-use Rattle.host.proofs.refusal_number.Statement.{statement}
-use Rattle.host.proofs.refusal_number.Tie as tie
-use Rattle.host.proofs.refusal_number.Reads as reads
-use Rattle.host.proofs.refusal_number.Lts as lts
+use Rattle.host.proofs.unit_calls.refusal_number.Statement.{statement}
+use Rattle.host.proofs.unit_calls.refusal_number.Tie as tie
+use Rattle.host.proofs.unit_calls.refusal_number.Reads as reads
+use Rattle.host.proofs.unit_calls.refusal_number.Lts as lts
 
 enum-told : tie.Need-enum-told
 enum-told c = search needs

@@ -1,11 +1,11 @@
--- `host::door_link_result` meets its contract.
+-- `unit_calls::door_link_result` meets its contract.
 use Rattle.host.proofs.Giving.{gives-result}
 use borrow.Author.Needs.{needs}
-use Rattle.host.proofs.door_link_result.Statement.{statement}
-use Rattle.host.proofs.door_link_result.Tie as tie
-use Rattle.host.proofs.door_link_result.Reads as reads
-use Rattle.host.proofs.door_link_result.Lts as lts
-use Rattle.host.proofs.reply_numbers.Reads as reply-numbers-reads
+use Rattle.host.proofs.unit_calls.door_link_result.Statement.{statement}
+use Rattle.host.proofs.unit_calls.door_link_result.Tie as tie
+use Rattle.host.proofs.unit_calls.door_link_result.Reads as reads
+use Rattle.host.proofs.unit_calls.door_link_result.Lts as lts
+use Rattle.host.proofs.unit_calls.reply_numbers.Reads as reply-numbers-reads
 use Rattle.link_unit.proofs.result.Reads as result-reads
 
 result-requires : tie.Need-result-requires

@@ -1,11 +1,11 @@
--- `host::door_link_find_status` meets its contract.
+-- `unit_calls::door_link_find_status` meets its contract.
 use Rattle.host.specs.Replies.{statusNumbers}
 use Rattle.host.proofs.Numbering.{status-numbers}
 use borrow.Author.Needs.{needs}
-use Rattle.host.proofs.door_link_find_status.Statement.{statement}
-use Rattle.host.proofs.door_link_find_status.Tie as tie
-use Rattle.host.proofs.door_link_find_status.Reads as reads
-use Rattle.host.proofs.door_link_find_status.Lts as lts
+use Rattle.host.proofs.unit_calls.door_link_find_status.Statement.{statement}
+use Rattle.host.proofs.unit_calls.door_link_find_status.Tie as tie
+use Rattle.host.proofs.unit_calls.door_link_find_status.Reads as reads
+use Rattle.host.proofs.unit_calls.door_link_find_status.Lts as lts
 use Rattle.finder.proofs.find_status.Reads as find-status-reads
 use Rattle.host.proofs.of_kind.Reads as of-kind-reads
 

@@ -1,11 +1,11 @@
--- `host::door_link_count` meets its contract.
+-- `unit_calls::door_link_count` meets its contract.
 use Rattle.host.proofs.Giving.{gives}
 use borrow.Author.Needs.{needs}
-use Rattle.host.proofs.door_link_count.Statement.{statement}
-use Rattle.host.proofs.door_link_count.Tie as tie
-use Rattle.host.proofs.door_link_count.Reads as reads
-use Rattle.host.proofs.door_link_count.Lts as lts
-use Rattle.host.proofs.reply_numbers.Reads as reply-numbers-reads
+use Rattle.host.proofs.unit_calls.door_link_count.Statement.{statement}
+use Rattle.host.proofs.unit_calls.door_link_count.Tie as tie
+use Rattle.host.proofs.unit_calls.door_link_count.Reads as reads
+use Rattle.host.proofs.unit_calls.door_link_count.Lts as lts
+use Rattle.host.proofs.unit_calls.reply_numbers.Reads as reply-numbers-reads
 use Rattle.link_unit.proofs.count.Reads as count-reads
 
 count-requires : tie.Need-count-requires
