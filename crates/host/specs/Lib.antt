@@ -1,4 +1,8 @@
--- The exported calls: their replies in plain numbers.
+-- The exported calls: what they give back in plain numbers, and that these lose nothing.
 pub mod Numbers
 pub mod Replies
 pub mod ReadBack
+pub mod InitReplies
+pub mod FrameReplies
+pub mod GenerationReplies
+pub mod JudgeReplies

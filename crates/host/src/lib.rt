@@ -1,16 +1,20 @@
 // What hosts in C and Rust call: every value is a number, a bool, a slice of numbers or a struct of these by value. All exported names begin with
 // `door_link_`; hosts/c has the header. Each call keeps the whole statement of the call that it wraps.
+mod frame_calls;
+mod generation_calls;
+mod init_calls;
+mod judge_call;
 mod unit_calls;
 
 ghost use mathlib.Core.Path.{_≡_};
-ghost use Rattle.host.specs.Numbers.{ofKind};
+ghost use Rattle.host.specs.Numbers.{ofKind, flagNumber};
 
 // A reply in plain numbers; a number that a kind of reply does not have is 0.
 #[repr(C)]
 pub struct ReplyNumbers {
-    // The refusal's number, the bytes written, the reason for plain TCP, the phase, the bytes of the transcript, or the records held.
+    // The refusal's number, the bytes written, the reason for plain TCP, the phase, the bytes of the transcript, the records held, or the offset after a frame.
     pub number: usize,
-    // 0 refused, 1 written, 2 plain, 3 the phase now, 4 encrypted, 5 done, 6 holds; of the finder 7 found, 8 none, 9 unreadable.
+    // 0 refused, 1 written, 2 plain, 3 the phase now, 4 encrypted, 5 done, 6 holds; of the finder 7 found, 8 none, 9 unreadable; 11 the offset after a frame.
     pub kind: u8,
     // Of an encrypted connection: this end's role, the TEP byte with v, and 1 where a session is resumed.
     pub role: u8,
@@ -22,6 +26,13 @@ fn wide(x: u8) -> usize
     ensures { λ r. ⌜ r ≡ x ⌝ }
 {
     x as usize
+}
+
+// 1 where a flag stands.
+fn flag_number(flag: bool) -> u8
+    ensures { λ r. ⌜ r ≡ flagNumber flag ⌝ }
+{
+    if flag { 1 } else { 0 }
 }
 
 // A reply of one number.

@@ -1,7 +1,7 @@
 // The unit's calls, and the finder's word.
+use crate::ReplyNumbers;
 use crate::of_kind;
 use crate::wide;
-use crate::ReplyNumbers;
 use door::Phase;
 use door::Refusal;
 use door::Reply;
