@@ -3,6 +3,10 @@ pub mod Numbers
 pub mod Replies
 pub mod ReadBack
 pub mod InitReplies
+pub mod InitBack
 pub mod FrameReplies
+pub mod FrameBack
 pub mod GenerationReplies
+pub mod GenerationBack
 pub mod JudgeReplies
+pub mod JudgeBack
