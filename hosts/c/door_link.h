@@ -1,4 +1,5 @@
-/* The link unit for hosts in C: TCP-ENO options (RFC 8547), resumption of tcpcrypt sessions (RFC 8548), 24 doors, one pool of 96 session records.
+/* The link unit for hosts in C: TCP-ENO options (RFC 8547), resumption of tcpcrypt sessions (RFC 8548), 24 doors, one pool of 96 session records. What comes
+ * after the handshake, Init messages, frames and generations, is in door_link_messages.h, which this header includes.
  *
  * Link with libhost.a, which `rt staticlib host` writes to target/staticlib (x86-64, System V calling convention).
  *
@@ -54,6 +55,7 @@ enum {
     DOOR_LINK_FOUND = 7,      /* door_link_find_status: 0 */
     DOOR_LINK_NONE = 8,       /* door_link_find_status: 0 */
     DOOR_LINK_BROKEN = 9      /* door_link_find_status: 0 */
+    /* 10 to 16: door_link_messages.h */
 };
 
 /* Refusals. */
@@ -61,10 +63,11 @@ enum {
     DOOR_LINK_NO_DOOR = 1,        /* door above 23 */
     DOOR_LINK_AREA_TOO_LONG = 2,  /* option area above 40 bytes */
     DOOR_LINK_UNFIT = 3,          /* an argument that does not fit: see each call */
-    DOOR_LINK_OUT_OF_TURN = 4,    /* not in this phase */
+    DOOR_LINK_OUT_OF_TURN = 4,    /* not in this phase; not while a rekey frame is owed */
     DOOR_LINK_NO_ROOM = 5,        /* lent buffer shorter than what is to be written */
     DOOR_LINK_FULL = 6,           /* the door holds four session records */
     DOOR_LINK_ALREADY_HELD = 7,   /* the door holds, or has in hand, a record of this TEP and identifier */
+    /* 8 to 15: door_link_messages.h */
     DOOR_LINK_NOT_HELD = 16       /* the door holds no record of this TEP and identifier */
 };
 
@@ -267,5 +270,7 @@ static inline struct door_link_reply door_link_unit_erase(struct door_link_unit 
 #ifdef __cplusplus
 }
 #endif
+
+#include "door_link_messages.h"
 
 #endif

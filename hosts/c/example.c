@@ -1,4 +1,5 @@
-/* Two ends, each with a unit of its own: a fresh connection, then one that resumes a session, then refusals. Silent where all is as it should be. */
+/* Two ends, each with a unit of its own: a fresh connection with its Init messages, frames and a rekey, then one that resumes a session, then refusals. Silent where
+ * all is as it should be. */
 #include "door_link.h"
 
 #include <stdio.h>
@@ -33,6 +34,8 @@ struct end {
     size_t door;
     uint8_t transcript[DOOR_LINK_TRANSCRIPT];
     uint8_t secret[DOOR_LINK_SECRET];
+    struct door_link_generations generations;
+    uint64_t sends_at, receives_at; /* where the next frame begins, in either direction */
 };
 
 /* A whole handshake; both ends then know the same transcript. Gives the TEP byte. */
@@ -71,6 +74,110 @@ static uint8_t connect_ends(struct end *active, struct end *passive, bool resume
     return a.tep;
 }
 
+/* Init1 and Init2 after a fresh handshake. Public keys and nonces are the host's to make, and so is the key agreement that follows. */
+static void exchange_init(struct end *a, struct end *b, uint8_t tep_byte) {
+    static const uint16_t ciphers[2] = {DOOR_LINK_CHACHA20_POLY1305, DOOR_LINK_AES128_GCM};
+    const uint8_t tep = tep_byte & 0x7f; /* without v */
+    uint8_t nonce_a[DOOR_LINK_INIT_NONCE], nonce_b[DOOR_LINK_INIT_NONCE], key_a[DOOR_LINK_CURVE25519_KEY], key_b[DOOR_LINK_CURVE25519_KEY];
+    uint8_t stream[128];
+    memset(nonce_a, 0xa1, sizeof nonce_a);
+    memset(key_a, 0xa2, sizeof key_a);
+    memset(nonce_b, 0xb1, sizeof nonce_b);
+    memset(key_b, 0xb2, sizeof key_b);
+
+    /* Host A sends Init1: with v left on, the call is refused. */
+    EXPECT(says(door_link_init1_write(tep | 0x80, ciphers, 2, nonce_a, 32, key_a, 32, stream, sizeof stream), DOOR_LINK_REFUSED, DOOR_LINK_UNFIT));
+    struct door_link_reply reply = door_link_init1_write(tep, ciphers, 2, nonce_a, 32, key_a, 32, stream, sizeof stream);
+    EXPECT(says(reply, DOOR_LINK_WRITTEN, 77));
+    a->sends_at = b->receives_at = reply.number;
+
+    /* Host B reads it as it comes, and takes AES-128, since it has no ChaCha20. */
+    struct door_link_init_reply init = door_link_init1_read(tep, true, true, false, stream, 20);
+    EXPECT(init.kind == DOOR_LINK_REFUSED && init.number == DOOR_LINK_INCOMPLETE);
+    init = door_link_init1_read(tep, true, true, false, stream, reply.number);
+    EXPECT(init.kind == DOOR_LINK_INIT && init.number == reply.number && init.count == 2 && init.cipher == DOOR_LINK_AES128_GCM);
+    EXPECT(memcmp(init.nonce, nonce_a, sizeof nonce_a) == 0 && memcmp(init.key, key_a, sizeof key_a) == 0);
+
+    /* Host B answers with Init2. */
+    reply = door_link_init2_write(tep, init.cipher, nonce_b, 32, key_b, 32, stream, sizeof stream);
+    EXPECT(says(reply, DOOR_LINK_WRITTEN, 74));
+    b->sends_at = a->receives_at = reply.number;
+    init = door_link_init2_read(tep, ciphers, 2, stream, reply.number);
+    EXPECT(init.kind == DOOR_LINK_INIT && init.number == reply.number && init.cipher == DOOR_LINK_AES128_GCM);
+    EXPECT(memcmp(init.nonce, nonce_b, sizeof nonce_b) == 0 && memcmp(init.key, key_b, sizeof key_b) == 0);
+}
+
+enum { MOST_DATA = 64, MOST_FRAME = DOOR_LINK_HEADER_BYTES + 3 + MOST_DATA + DOOR_LINK_TAG };
+
+/* STANDS IN FOR THE HOST'S CIPHER, AND CIPHERS NOTHING: the plaintext as it is, and in place of a tag the nonce and the associated data.
+ * A host calls its AEAD here, with the keys of the frame's generation. */
+static void seal(uint8_t *out, const uint8_t *text, size_t length, const uint8_t nonce[12], const uint8_t associated[3]) {
+    memmove(out, text, length);
+    memset(out + length, 0, DOOR_LINK_TAG);
+    memcpy(out + length, nonce, 12);
+    memcpy(out + length + 12, associated, 3);
+}
+
+static bool opens(const uint8_t *sealed, size_t length, const uint8_t nonce[12], const uint8_t associated[3]) {
+    uint8_t again[MOST_FRAME];
+    seal(again, sealed, length - DOOR_LINK_TAG, nonce, associated);
+    return memcmp(again, sealed, length) == 0;
+}
+
+/* One frame: `step` is what this end's record said of it. Gives the generation under which it came. */
+static uint16_t carry(struct end *from, struct end *to, struct door_link_generation_step step, bool fin, const char *data) {
+    static const uint8_t fixed[12] = {1, 2, 3, 4, 5, 6, 7, 8, 9, 10, 11, 12}; /* the host derives it with the keys of each generation */
+    uint8_t text[3 + MOST_DATA], frame[MOST_FRAME];
+    EXPECT(step.kind == DOOR_LINK_SENT);
+
+    /* The sender: plaintext, header, nonce, and its cipher over them. */
+    struct door_link_reply reply = door_link_plaintext_write(fin, false, 0, (const uint8_t *)data, strlen(data), text, sizeof text);
+    EXPECT(says(reply, DOOR_LINK_WRITTEN, 1 + strlen(data)));
+    const size_t clen = reply.number + DOOR_LINK_TAG;
+    reply = door_link_header_write(step.rekey, clen, from->sends_at, frame, sizeof frame);
+    EXPECT(says(reply, DOOR_LINK_NEXT, from->sends_at + DOOR_LINK_HEADER_BYTES + clen));
+    struct door_link_nonce_reply nonce = door_link_nonce(fixed, sizeof fixed, from->sends_at);
+    EXPECT(nonce.kind == DOOR_LINK_NONCE);
+    seal(frame + DOOR_LINK_HEADER_BYTES, text, clen - DOOR_LINK_TAG, nonce.nonce, frame);
+    from->sends_at = reply.number;
+
+    /* The receiver: header, generation, nonce, its cipher; the record is kept once the tag was good. */
+    struct door_link_header_reply header = door_link_header_read(frame, DOOR_LINK_HEADER_BYTES, to->receives_at);
+    EXPECT(header.kind == DOOR_LINK_HEADER && header.clen == clen && header.rekey == step.rekey);
+    struct door_link_generation_step came = door_link_receive_frame(to->generations, header.rekey);
+    EXPECT(came.kind == DOOR_LINK_RECEIVED && came.number == step.number);
+    nonce = door_link_nonce(fixed, sizeof fixed, to->receives_at);
+    EXPECT(nonce.kind == DOOR_LINK_NONCE);
+    EXPECT(opens(frame + DOOR_LINK_HEADER_BYTES, header.clen, nonce.nonce, header.associated));
+    to->generations = came.next;
+    to->receives_at = header.number;
+    struct door_link_plaintext_reply read = door_link_plaintext_read(frame + DOOR_LINK_HEADER_BYTES, header.clen - DOOR_LINK_TAG);
+    EXPECT(read.kind == DOOR_LINK_PLAINTEXT && read.fin == fin && read.urg == 0 && read.number == 1);
+    EXPECT(memcmp(frame + DOOR_LINK_HEADER_BYTES + read.number, data, strlen(data)) == 0);
+    return came.number;
+}
+
+/* One frame each way, a rekey that the other end follows, and the ends of both directions. */
+static void exchange_frames(struct end *a, struct end *b) {
+    a->generations = b->generations = door_link_first_record();
+    EXPECT(carry(a, b, door_link_generations_send(&a->generations, false), false, "open the doors") == 0);
+    EXPECT(carry(b, a, door_link_generations_send(&b->generations, false), false, "doors are open") == 0);
+
+    /* A goes on to new keys; a second time without data has to wait until B followed. */
+    EXPECT(carry(a, b, door_link_generations_initiate(&a->generations, true, false), false, "under new keys") == 1);
+    EXPECT(door_link_generations_initiate(&a->generations, false, false).number == DOOR_LINK_UNANSWERED);
+    EXPECT(door_link_is_owed(b->generations) && !door_link_is_owed(a->generations));
+    EXPECT(door_link_generations_initiate(&b->generations, true, false).number == DOOR_LINK_OUT_OF_TURN);
+    EXPECT(carry(b, a, door_link_generations_send(&b->generations, false), false, "") == 1);
+    EXPECT(!door_link_is_owed(b->generations));
+
+    /* FINp ends a direction. */
+    EXPECT(carry(a, b, door_link_generations_send(&a->generations, true), true, "") == 1);
+    struct door_link_generation_step step = door_link_generations_send(&a->generations, false);
+    EXPECT(step.kind == DOOR_LINK_REFUSED && step.number == DOOR_LINK_FINISHED);
+    EXPECT(carry(b, a, door_link_generations_send(&b->generations, true), true, "doors are closed") == 1);
+}
+
 int main(void) {
     static const uint8_t tep = DOOR_LINK_CURVE25519;
     static const uint8_t zeros[DOOR_LINK_SECRET] = {0};
@@ -86,6 +193,9 @@ int main(void) {
     EXPECT(memcmp(active.transcript, fresh, sizeof fresh) == 0);
     EXPECT(memcmp(active.secret, zeros, sizeof zeros) == 0 && memcmp(passive.secret, zeros, sizeof zeros) == 0);
 
+    exchange_init(&active, &passive, tep);
+    exchange_frames(&active, &passive);
+
     /* Both ends keep a session of that connection, each with its own role in it. */
     EXPECT(says(door_link_unit_store(&active.unit, active.door, tep, 0, identifier, sizeof identifier, secret, sizeof secret), DOOR_LINK_DONE, 0));
     EXPECT(says(door_link_unit_store(&passive.unit, passive.door, tep, 1, identifier, sizeof identifier, secret, sizeof secret), DOOR_LINK_DONE, 0));
@@ -98,6 +208,10 @@ int main(void) {
     EXPECT(memcmp(active.secret, secret, sizeof secret) == 0 && memcmp(passive.secret, secret, sizeof secret) == 0);
     EXPECT(says(door_link_unit_count(&active.unit, active.door), DOOR_LINK_HOLDS, 0));
     EXPECT(says(door_link_unit_count(&passive.unit, passive.door), DOOR_LINK_HOLDS, 0));
+
+    /* No Init messages then: the frames begin where the streams do. */
+    active.sends_at = active.receives_at = passive.sends_at = passive.receives_at = 0;
+    exchange_frames(&active, &passive);
 
     /* Refusals leave the unit as it was. */
     struct door_link_unit before = active.unit;

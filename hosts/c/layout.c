@@ -1,5 +1,6 @@
-/* The structs of door_link.h against the library's: sizes and offsets as the compiler lays out the fields that the library declares (crates eno, door, unit and
- * host, each `#[repr(C)]`), and a unit read through these fields after a few calls. Silent where all agree. A host needs none of this. */
+/* The structs of door_link.h and door_link_messages.h against the library's: sizes and offsets as the compiler lays out the fields that the library declares (crates
+ * eno, door, unit, generation and host, each `#[repr(C)]`), a unit read through these fields after a few calls, and replies whose fields all differ. Silent where
+ * all agree. A host needs none of this. */
 #include "door_link.h"
 
 #include <stdio.h>
@@ -62,6 +63,35 @@ _Static_assert(sizeof(struct door_link_step) == 8608 && offsetof(struct door_lin
 _Static_assert(sizeof(struct door_link_result_step) == 8640 && offsetof(struct door_link_result_step, reply) == 8592, "the header's result");
 _Static_assert(offsetof(struct door_link_result_step, secret) == 8608, "the header's result: secret");
 
+_Static_assert(sizeof(struct door_link_init_reply) == 112 && _Alignof(struct door_link_init_reply) == 8, "an Init message");
+_Static_assert(offsetof(struct door_link_init_reply, number) == 0 && offsetof(struct door_link_init_reply, count) == 8, "an Init message: number, count");
+_Static_assert(offsetof(struct door_link_init_reply, cipher) == 16 && offsetof(struct door_link_init_reply, kind) == 18, "an Init message: cipher, kind");
+_Static_assert(offsetof(struct door_link_init_reply, nonce) == 19 && offsetof(struct door_link_init_reply, key) == 51, "an Init message: nonce, key");
+_Static_assert(sizeof(struct door_link_header_reply) == 16 && _Alignof(struct door_link_header_reply) == 8, "a frame's header");
+_Static_assert(offsetof(struct door_link_header_reply, number) == 0 && offsetof(struct door_link_header_reply, clen) == 8, "a header: number, clen");
+_Static_assert(offsetof(struct door_link_header_reply, kind) == 10 && offsetof(struct door_link_header_reply, rekey) == 11, "a header: kind, rekey");
+_Static_assert(offsetof(struct door_link_header_reply, associated) == 12, "a header: associated data");
+_Static_assert(sizeof(struct door_link_id) == 12 && _Alignof(struct door_link_id) == 1, "a frame ID");
+_Static_assert(sizeof(struct door_link_nonce_reply) == 24 && _Alignof(struct door_link_nonce_reply) == 8, "a nonce");
+_Static_assert(offsetof(struct door_link_nonce_reply, number) == 0 && offsetof(struct door_link_nonce_reply, kind) == 8, "a nonce: number, kind");
+_Static_assert(offsetof(struct door_link_nonce_reply, nonce) == 9, "a nonce: its bytes");
+_Static_assert(sizeof(struct door_link_plaintext_reply) == 16 && _Alignof(struct door_link_plaintext_reply) == 8, "a plaintext");
+_Static_assert(offsetof(struct door_link_plaintext_reply, number) == 0 && offsetof(struct door_link_plaintext_reply, urgent) == 8, "a plaintext: number, urgent");
+_Static_assert(offsetof(struct door_link_plaintext_reply, kind) == 10 && offsetof(struct door_link_plaintext_reply, fin) == 11, "a plaintext: kind, fin");
+_Static_assert(offsetof(struct door_link_plaintext_reply, urg) == 12, "a plaintext: urg");
+_Static_assert(sizeof(struct door_link_generations) == 8 && _Alignof(struct door_link_generations) == 2, "a generation record");
+_Static_assert(offsetof(struct door_link_generations, local) == 0 && offsetof(struct door_link_generations, remote) == 2, "a generation record: local, remote");
+_Static_assert(offsetof(struct door_link_generations, last) == 4 && offsetof(struct door_link_generations, fin) == 6, "a generation record: last, fin");
+_Static_assert(sizeof(struct door_link_generation_step) == 12 && _Alignof(struct door_link_generation_step) == 2, "a generation step");
+_Static_assert(offsetof(struct door_link_generation_step, next) == 0 && offsetof(struct door_link_generation_step, number) == 8, "a step: next, number");
+_Static_assert(offsetof(struct door_link_generation_step, kind) == 10 && offsetof(struct door_link_generation_step, rekey) == 11, "a step: kind, rekey");
+_Static_assert(sizeof(struct door_link_session) == sizeof(struct session_record) && _Alignof(struct door_link_session) == 1, "the header's session record");
+_Static_assert(offsetof(struct door_link_session, tep) == 0 && offsetof(struct door_link_session, role) == 1, "the header's session record: tep, role");
+_Static_assert(offsetof(struct door_link_session, identifier) == 2 && offsetof(struct door_link_session, secret) == 20, "its identifier and secret");
+_Static_assert(sizeof(struct door_link_hand) == sizeof(struct in_hand) && offsetof(struct door_link_hand, session) == 1, "the header's record in hand");
+_Static_assert(sizeof(struct door_link_judgement) == 96 && _Alignof(struct door_link_judgement) == 8, "a judgement");
+_Static_assert(offsetof(struct door_link_judgement, reply) == 0 && offsetof(struct door_link_judgement, transcript) == 16, "a judgement's fields");
+
 static int failures = 0;
 
 static void expect(bool holds, int line) {
@@ -75,6 +105,121 @@ static struct unit seen(const struct door_link_unit *from) {
     struct unit u;
     memcpy(&u, from, sizeof u);
     return u;
+}
+
+/* Bytes from a first one upwards. */
+static void count_up(uint8_t *bytes, size_t length, uint8_t first) {
+    for (size_t i = 0; i < length; i++) bytes[i] = (uint8_t)(first + i);
+}
+
+static bool all_zero(const uint8_t *bytes, size_t length) {
+    for (size_t i = 0; i < length; i++)
+        if (bytes[i]) return false;
+    return true;
+}
+
+/* Init messages: the second cipher of three is taken, so that cipher, count and length differ. */
+static void init_messages(void) {
+    static const uint16_t ciphers[3] = {0x7788, DOOR_LINK_AES256_GCM, DOOR_LINK_CHACHA20_POLY1305};
+    uint8_t nonce[32], key[56], message[128];
+    count_up(nonce, 32, 0x40);
+    count_up(key, 56, 0x80);
+    struct door_link_reply reply = door_link_init1_write(DOOR_LINK_CURVE448, ciphers, 3, nonce, 32, key, 56, message, sizeof message);
+    EXPECT(reply.kind == DOOR_LINK_WRITTEN && reply.number == 103 && !reply.role && !reply.tep && !reply.resumed);
+    struct door_link_init_reply init = door_link_init1_read(DOOR_LINK_CURVE448, true, true, false, message, reply.number);
+    EXPECT(init.kind == DOOR_LINK_INIT && init.number == 103 && init.count == 3 && init.cipher == DOOR_LINK_AES256_GCM);
+    EXPECT(memcmp(init.nonce, nonce, 32) == 0 && memcmp(init.key, key, 56) == 0);
+    init = door_link_init1_read(DOOR_LINK_CURVE448, true, false, true, message, reply.number);
+    EXPECT(init.kind == DOOR_LINK_INIT && init.cipher == DOOR_LINK_CHACHA20_POLY1305);
+    init = door_link_init1_read(DOOR_LINK_CURVE448, true, false, false, message, reply.number);
+    EXPECT(init.kind == DOOR_LINK_REFUSED && init.number == DOOR_LINK_NO_CIPHER && !init.count && !init.cipher);
+    EXPECT(all_zero(init.nonce, 32) && all_zero(init.key, 56));
+
+    reply = door_link_init2_write(DOOR_LINK_CURVE25519, 0x1234, nonce, 32, key, 32, message, sizeof message);
+    EXPECT(reply.kind == DOOR_LINK_WRITTEN && reply.number == 74);
+    static const uint16_t own[1] = {0x1234};
+    init = door_link_init2_read(DOOR_LINK_CURVE25519, own, 1, message, reply.number);
+    EXPECT(init.kind == DOOR_LINK_INIT && init.number == 74 && init.count == 1 && init.cipher == 0x1234);
+    EXPECT(memcmp(init.nonce, nonce, 32) == 0 && memcmp(init.key, key, 32) == 0 && all_zero(init.key + 32, 24));
+}
+
+/* Frames: offsets above four bytes, so that no half of one is lost. */
+static void frames(void) {
+    const uint64_t offset = 0x0102030405060708u;
+    uint8_t header[3] = {0xff, 0x01, 0x23}, fixed[12], bytes[8];
+    struct door_link_reply reply = door_link_next_offset(offset, 0x123);
+    EXPECT(reply.kind == DOOR_LINK_NEXT && reply.number == offset + 0x126 && !reply.role && !reply.tep && !reply.resumed);
+    struct door_link_header_reply read = door_link_header_read(header, 3, offset);
+    EXPECT(read.kind == DOOR_LINK_HEADER && read.number == offset + 0x126 && read.clen == 0x123 && read.rekey == 1);
+    EXPECT(memcmp(read.associated, header, 3) == 0);
+    reply = door_link_header_write(true, 0x123, offset, header, 3);
+    EXPECT(reply.kind == DOOR_LINK_NEXT && reply.number == offset + 0x126 && header[0] == 1 && header[1] == 0x01 && header[2] == 0x23);
+    read = door_link_header_read(header, 2, offset);
+    EXPECT(read.kind == DOOR_LINK_REFUSED && read.number == DOOR_LINK_INCOMPLETE && !read.clen && !read.rekey && all_zero(read.associated, 3));
+
+    static const uint8_t id[12] = {0x44, 0x41, 0x54, 0x41, 1, 2, 3, 4, 5, 6, 7, 8};
+    struct door_link_id made = door_link_frame_id(offset);
+    EXPECT(memcmp(made.bytes, id, 12) == 0);
+    count_up(fixed, 12, 0x30);
+    struct door_link_nonce_reply nonce = door_link_nonce(fixed, 12, offset);
+    EXPECT(nonce.kind == DOOR_LINK_NONCE && nonce.number == 0);
+    for (size_t i = 0; i < 12; i++) EXPECT(nonce.nonce[i] == (id[i] ^ fixed[i]));
+    nonce = door_link_nonce(fixed, 11, offset);
+    EXPECT(nonce.kind == DOOR_LINK_REFUSED && nonce.number == DOOR_LINK_UNFIT && all_zero(nonce.nonce, 12));
+
+    reply = door_link_plaintext_write(false, true, 0x5678, fixed, 4, bytes, sizeof bytes);
+    EXPECT(reply.kind == DOOR_LINK_WRITTEN && reply.number == 7 && bytes[0] == 2 && memcmp(bytes + 3, fixed, 4) == 0);
+    struct door_link_plaintext_reply text = door_link_plaintext_read(bytes, 7);
+    EXPECT(text.kind == DOOR_LINK_PLAINTEXT && text.number == 3 && text.urgent == 0x5678 && text.fin == 0 && text.urg == 1);
+    bytes[0] = 0xfd;
+    text = door_link_plaintext_read(bytes, 7);
+    EXPECT(text.kind == DOOR_LINK_PLAINTEXT && text.number == 1 && text.urgent == 0 && text.fin == 1 && text.urg == 0);
+    text = door_link_plaintext_read(bytes, 0);
+    EXPECT(text.kind == DOOR_LINK_REFUSED && text.number == DOOR_LINK_NO_PLAINTEXT && !text.urgent && !text.fin && !text.urg);
+}
+
+static bool has(struct door_link_generations g, uint16_t local, uint16_t remote, uint16_t last, bool fin) {
+    return g.local == local && g.remote == remote && g.last == last && g.fin == fin;
+}
+
+/* Generations: a record whose numbers all differ. */
+static void generations(void) {
+    struct door_link_generations g = {.local = 0x0506, .remote = 0x0304, .last = 0x0102, .fin = false};
+    EXPECT(has(door_link_first_record(), 0, 0, 0, false) && !door_link_is_owed(door_link_first_record()) && door_link_is_owed(g));
+    struct door_link_generation_step step = door_link_send(g, true);
+    EXPECT(step.kind == DOOR_LINK_SENT && step.number == 0x0103 && step.rekey == 1 && has(step.next, 0x0506, 0x0304, 0x0103, true));
+    step = door_link_receive_frame(step.next, true);
+    EXPECT(step.kind == DOOR_LINK_RECEIVED && step.number == 0x0305 && step.rekey == 0 && has(step.next, 0x0506, 0x0305, 0x0103, true));
+    step = door_link_send(step.next, false);
+    EXPECT(step.kind == DOOR_LINK_REFUSED && step.number == DOOR_LINK_FINISHED && step.rekey == 0 && has(step.next, 0x0506, 0x0305, 0x0103, true));
+    g.last = g.local;
+    step = door_link_initiate(g, true, false);
+    EXPECT(step.kind == DOOR_LINK_SENT && step.number == 0x0507 && step.rekey == 1 && has(step.next, 0x0507, 0x0304, 0x0507, false));
+    step = door_link_initiate(g, false, true);
+    EXPECT(step.kind == DOOR_LINK_REFUSED && step.number == DOOR_LINK_UNANSWERED && has(step.next, 0x0506, 0x0304, 0x0506, false));
+}
+
+/* The judge: the session of the case R, resumed and not. */
+static void judgement(void) {
+    uint8_t own[13] = {0x45, 0x0d, 0x21, 0xa3}, peer[13] = {0x45, 0x0d, 0x01, 0xa3};
+    struct door_link_hand hand = {.held = true, .session = {.tep = 0x23, .role = 0}};
+    count_up(hand.session.identifier, 18, 0);
+    count_up(hand.session.secret, 32, 0x60);
+    memcpy(own + 4, hand.session.identifier, 9);
+    memcpy(peer + 4, hand.session.identifier + 9, 9);
+    struct door_link_judgement says = door_link_judge(own, 13, peer, 13, false, hand);
+    EXPECT(says.reply.kind == DOOR_LINK_ENCRYPTED && says.reply.number == 26 && says.reply.role == 0 && says.reply.tep == 0xa3 && says.reply.resumed == 1);
+    EXPECT(memcmp(says.transcript, own, 13) == 0 && memcmp(says.transcript + 13, peer, 13) == 0 && all_zero(says.transcript + 26, 54));
+    says = door_link_judge(peer, 13, own, 13, false, hand);
+    EXPECT(says.reply.kind == DOOR_LINK_PLAIN && says.reply.number == DOOR_LINK_NO_TEP && !says.reply.role && !says.reply.tep && !says.reply.resumed);
+    hand.session.role = 1;
+    says = door_link_judge(peer, 13, own, 13, false, hand);
+    EXPECT(says.reply.kind == DOOR_LINK_ENCRYPTED && says.reply.number == 26 && says.reply.role == 1 && says.reply.tep == 0xa3 && says.reply.resumed == 1);
+    hand.held = false;
+    says = door_link_judge(own, 13, peer, 13, false, hand);
+    EXPECT(says.reply.kind == DOOR_LINK_PLAIN && says.reply.number == DOOR_LINK_NO_TEP && all_zero(says.transcript, sizeof says.transcript));
+    says = door_link_judge(own, 13, peer, 13, true, hand);
+    EXPECT(says.reply.kind == DOOR_LINK_PLAIN && says.reply.number == DOOR_LINK_NOT_AWARE);
 }
 
 int main(void) {
@@ -122,5 +267,10 @@ int main(void) {
     EXPECT(reply.kind == DOOR_LINK_PLAIN && reply.number == DOOR_LINK_NO_OPTION);
     u = seen(&unit);
     EXPECT(u.doors[22].door.phase == 5 && u.doors[22].door.reason == DOOR_LINK_NO_OPTION);
+
+    init_messages();
+    frames();
+    generations();
+    judgement();
     return failures ? 1 : 0;
 }

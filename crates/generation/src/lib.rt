@@ -6,6 +6,7 @@ ghost use Rattle.generation.specs.Steps.{Ask, first, owed, sending, outc
 ghost use Rattle.generation.specs.Answers.{stepOf, lent};
 
 // Local, remote, last used in sending, and whether FINp was sent.
+#[repr(C)]
 pub struct GenerationRecord {
     pub local: u16,
     pub remote: u16,

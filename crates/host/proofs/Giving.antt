@@ -12,8 +12,8 @@ use Rattle.link_unit.specs.declared.Replied.{Replied}
 use Rattle.link_unit.specs.declared.Resulted.{Resulted}
 use Rattle.host.specs.Replies.{numbersOf, replied, resulted, Gives, GivesResult}
 use Rattle.host.specs.declared.ReplyNumbers.{ReplyNumbers}
-use Rattle.host.specs.declared.LinkReply.{LinkReply}
-use Rattle.host.specs.declared.LinkResult.{LinkResult}
+use Rattle.host.specs.declared.unit_calls.LinkReply.{LinkReply}
+use Rattle.host.specs.declared.unit_calls.LinkResult.{LinkResult}
 
 abbrev linkReply : LinkUnit → ReplyNumbers → LinkReply
 linkReply u n = record { unit = u; reply = n }

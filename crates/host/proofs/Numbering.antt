@@ -13,7 +13,8 @@ use Rattle.door.specs.declared.Refusal.{Refusal}
 use Rattle.door.specs.declared.Phase.{Phase}
 use Rattle.door.specs.declared.Reply.{Reply}
 use Rattle.door.specs.declared.Reply.the-variants as reply
-use Rattle.host.specs.Replies.{ofKind, wayNumber, numbersOf, statusNumbers}
+use Rattle.host.specs.Numbers.{ofKind}
+use Rattle.host.specs.Replies.{wayNumber, numbersOf, statusNumbers}
 use Rattle.host.specs.declared.ReplyNumbers.{ReplyNumbers}
 
 abbrev numbers : Reply → ReplyNumbers

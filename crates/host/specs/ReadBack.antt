@@ -10,11 +10,11 @@ use Rattle.door.specs.Answers.{secretBeside}
 use Rattle.host.specs.Replies.{wayNumber, numbersOf, statusNumbers}
 use Rattle.host.specs.declared.ReplyNumbers.{ReplyNumbers}
 
-abbrev wayOf : ℕ → Way
+abbrev pub wayOf : ℕ → Way
 wayOf zero = fresh
 wayOf (suc n) = resumed
 
-way-back : (w : Way) → wayOf (wayNumber w) ≡ w
+pub way-back : (w : Way) → wayOf (wayNumber w) ≡ w
 way-back fresh = refl
 way-back resumed = refl
 

@@ -8,13 +8,10 @@ use Rattle.door.specs.Door.{phaseNumber}
 use Rattle.door.specs.Outcome.{Reply, refused, written, plain, nowIn, encrypted, done, holds}
 use Rattle.door.specs.Answers.{secretBeside}
 use Rattle.unit.specs.Run.{Step}
+use Rattle.host.specs.Numbers.{ofKind}
 use Rattle.host.specs.declared.ReplyNumbers.{ReplyNumbers}
-use Rattle.host.specs.declared.LinkReply.{LinkReply}
-use Rattle.host.specs.declared.LinkResult.{LinkResult}
-
--- a reply of one number
-abbrev pub ofKind : (kind number : ℕ) → ReplyNumbers
-ofKind k n = record { number = n; kind = k; role = 0; tep = 0; resumed = 0 }
+use Rattle.host.specs.declared.unit_calls.LinkReply.{LinkReply}
+use Rattle.host.specs.declared.unit_calls.LinkResult.{LinkResult}
 
 -- 1 where a session is resumed
 abbrev pub wayNumber : Way → ℕ

@@ -1,0 +1,244 @@
+/* After the handshake, for hosts in C: Init messages, frames and generations of tcpcrypt (RFC 8548), and the judge of two option areas.
+ *
+ * None of these calls knows a unit or a door: each answers from its arguments alone. What door_link.h says of bytes, refusals and threads holds here too. A pointer
+ * is never null, also where its length is 0. Lists of ciphers go in as a pointer and a count.
+ *
+ * THE HOST'S PART is all of the cryptography: public keys, key agreement, the keys of each generation, fixed nonces, ciphering and tags, and random numbers.
+ * These calls lay out and read the bytes around it.
+ *
+ * THE TEP: door_link_result gives the TEP byte as host B sent it, perhaps with v (0x80). Mask it with 0x7f before an Init call, which refuses 0xa3 with 3. */
+#ifndef DOOR_LINK_MESSAGES_H
+#define DOOR_LINK_MESSAGES_H
+
+#include "door_link.h"
+
+#ifdef __cplusplus
+extern "C" {
+#endif
+
+/* Further kinds of reply, and what their `number` is. */
+enum {
+    DOOR_LINK_INIT = 10,      /* an Init message was read: the length of the whole message */
+    DOOR_LINK_NEXT = 11,      /* the offset after the frame, where the next one begins */
+    DOOR_LINK_HEADER = 12,    /* a frame's header was read: the offset after the frame */
+    DOOR_LINK_NONCE = 13,     /* 0 */
+    DOOR_LINK_PLAINTEXT = 14, /* a plaintext was read: where its data begin; they run to its end */
+    DOOR_LINK_SENT = 15,      /* a frame is sent: its generation */
+    DOOR_LINK_RECEIVED = 16   /* a frame came: its generation */
+};
+
+/* Further refusals. */
+enum {
+    DOOR_LINK_NO_INIT = 8,      /* no Init message, whatever bytes follow: give the connection up */
+    DOOR_LINK_INCOMPLETE = 9,   /* bytes are missing: call again with all bytes so far and more behind them */
+    DOOR_LINK_NO_CIPHER = 10,   /* a whole Init message, and no cipher of it is ours */
+    DOOR_LINK_NO_FRAME = 11,    /* ciphertext below 17 or above 65,535 bytes, plaintext above 65,519 bytes, or the offset after the frame passes 2^64 - 1 */
+    DOOR_LINK_NO_PLAINTEXT = 12,/* no bytes, or URGp with fewer than three */
+    DOOR_LINK_PAST_LAST = 13,   /* a generation would pass 65,535 */
+    DOOR_LINK_FINISHED = 14,    /* a frame with FINp was sent: none may follow */
+    DOOR_LINK_UNANSWERED = 15   /* initiating without data before the other side followed the last time */
+};
+
+/* AEAD ciphers, as Init messages name them. */
+enum { DOOR_LINK_AES128_GCM = 0x0001, DOOR_LINK_AES256_GCM = 0x0002, DOOR_LINK_CHACHA20_POLY1305 = 0x0010 };
+
+enum {
+    DOOR_LINK_INIT_NONCE = 32,      /* bytes of an Init message's nonce */
+    DOOR_LINK_CURVE25519_KEY = 32,  /* bytes of a public key of TEP 0x23 */
+    DOOR_LINK_CURVE448_KEY = 56,    /* and of TEP 0x24 */
+    DOOR_LINK_TAG = 16,             /* bytes of a tag, by which a ciphertext is longer than its plaintext */
+    DOOR_LINK_HEADER_BYTES = 3,     /* bytes of a frame's header */
+    DOOR_LINK_FRAME_ID = 12,        /* bytes of a frame ID, of a fixed nonce and of a frame's nonce */
+    DOOR_LINK_MOST_PLAINTEXT = 65519
+};
+
+/* ---- Init messages: TEPs 0x23 and 0x24. Those of 0x21 and 0x22 are the host's. ---- */
+
+/* What reading an Init message gives. Beside a refusal all but kind and number are zeros. */
+struct door_link_init_reply {
+    size_t number;
+    size_t count;    /* ciphers that the message lists; 1 for Init2 */
+    uint16_t cipher; /* the cipher that both ends use from now on */
+    uint8_t kind;
+    uint8_t nonce[DOOR_LINK_INIT_NONCE];
+    uint8_t key[DOOR_LINK_CURVE448_KEY]; /* the other side's public key, then zeros: 32 bytes of it count for TEP 0x23, 56 for 0x24 */
+};
+
+/* Writes Init1, with which host A begins a fresh key exchange.
+ *   tep      0x23 or 0x24, without v
+ *   ciphers  0 to 255 of them, the best first
+ *   nonce    32 bytes, fresh
+ *   key      this end's public key, 32 or 56 bytes by the TEP
+ *   out      lent; the message has 41 bytes, two for each cipher, and the key
+ * Replies: WRITTEN. Refused: 3 for another TEP, another length of nonce or key, or more than 255 ciphers; 5. */
+struct door_link_reply door_link_init1_write(uint8_t tep, const uint16_t *ciphers, size_t ciphers_count, const uint8_t *nonce, size_t nonce_length,
+                                             const uint8_t *key, size_t key_length, uint8_t *out, size_t out_length);
+
+/* Writes Init2, host B's answer: the cipher that door_link_init1_read gave, B's nonce and its public key. The message has 42 bytes and the key.
+ * Replies: WRITTEN. Refused: 3 for another TEP or another length of nonce or key; 5. */
+struct door_link_reply door_link_init2_write(uint8_t tep, uint16_t cipher, const uint8_t *nonce, size_t nonce_length, const uint8_t *key, size_t key_length,
+                                             uint8_t *out, size_t out_length);
+
+/* Reads Init1 at host B from the bytes that have come so far, and takes the first of its ciphers that is enabled here. Bytes behind the message are not read; they
+ * belong to the first frame, which begins at `number`.
+ * Replies: INIT. Refused: 3 for another TEP; 8; 9; 10. */
+struct door_link_init_reply door_link_init1_read(uint8_t tep, bool aes128, bool aes256, bool chacha20, const uint8_t *bytes, size_t bytes_length);
+
+/* Reads Init2 at host A, whose own Init1 offered the ciphers `own`. Bytes behind the message are not read.
+ * Replies: INIT. Refused: 3 for another TEP or more than 255 ciphers; 8; 9; 10 where the cipher is none of them. */
+struct door_link_init_reply door_link_init2_read(uint8_t tep, const uint16_t *own, size_t own_count, const uint8_t *bytes, size_t bytes_length);
+
+/* ---- Frames. An offset is a place in one direction's stream of bytes: the first frame begins behind that direction's Init message, or at 0 where a session is
+ * resumed and there is none; each further one where NEXT or HEADER says. ---- */
+
+/* What reading a header gives. Beside a refusal all but kind and number are zeros. */
+struct door_link_header_reply {
+    size_t number;
+    uint16_t clen; /* bytes of the ciphertext behind the header, with its tag: 17 to 65,535 */
+    uint8_t kind;
+    uint8_t rekey;                              /* 1 where the frame is the first of a generation, else 0: for door_link_receive_frame */
+    uint8_t associated[DOOR_LINK_HEADER_BYTES]; /* the associated data: the header as received, reserved bits too */
+};
+
+struct door_link_id {
+    uint8_t bytes[DOOR_LINK_FRAME_ID];
+};
+
+struct door_link_nonce_reply {
+    size_t number;
+    uint8_t kind;
+    uint8_t nonce[DOOR_LINK_FRAME_ID]; /* zeros beside a refusal */
+};
+
+/* What reading a plaintext gives. What is not there is 0. */
+struct door_link_plaintext_reply {
+    size_t number;
+    uint16_t urgent; /* 0 without URGp */
+    uint8_t kind;
+    uint8_t fin; /* FINp: 1 in the last frame of this direction, else 0 */
+    uint8_t urg; /* URGp: 1 or 0 */
+};
+
+/* The offset after a frame that begins at an offset and has clen bytes of ciphertext.
+ * Replies: NEXT. Refused: 11. */
+struct door_link_reply door_link_next_offset(uint64_t offset, size_t clen);
+
+/* Writes a frame's header, three bytes, which are also the frame's associated data.
+ *   rekey   as door_link_send or door_link_initiate gave it
+ *   clen    bytes of the ciphertext: the plaintext and 16 for the tag
+ *   offset  where the frame begins
+ * Replies: NEXT. Refused: 5; 11. */
+struct door_link_reply door_link_header_write(bool rekey, size_t clen, uint64_t offset, uint8_t *out, size_t out_length);
+
+/* Reads the header of a frame that begins at an offset: three bytes, and whatever follows them.
+ * Replies: HEADER. Refused: 9; 11, which ends the connection. */
+struct door_link_header_reply door_link_header_read(const uint8_t *bytes, size_t bytes_length, uint64_t offset);
+
+/* The frame ID of a frame that begins at an offset. Never refused.
+ * It begins with 44 41 54 41, where RFC 8548 has four zero bytes: a peer that follows the RFC computes other nonces (docs/DECISIONS.md, entry 1). */
+struct door_link_id door_link_frame_id(uint64_t offset);
+
+/* The nonce of a frame that begins at an offset: its frame ID XOR the fixed nonce of the generation and the direction, 12 bytes.
+ * Replies: NONCE. Refused: 3 for another length. */
+struct door_link_nonce_reply door_link_nonce(const uint8_t *fixed, size_t fixed_length, uint64_t offset);
+
+/* Writes a frame's plaintext, which the host then ciphers: flags, the urgent field where urg is set, and the payload, perhaps of no bytes.
+ *   fin     the last frame of this direction: the same as for door_link_send or door_link_initiate
+ *   out     lent; as long as the payload and three bytes is always enough
+ * Replies: WRITTEN. Refused: 5; 11 above 65,519 bytes in all. */
+struct door_link_reply door_link_plaintext_write(bool fin, bool urg, uint16_t urgent, const uint8_t *payload, size_t payload_length, uint8_t *out,
+                                                 size_t out_length);
+
+/* Reads a plaintext whose tag was good.
+ * Replies: PLAINTEXT. Refused: 12, which ends the connection. */
+struct door_link_plaintext_reply door_link_plaintext_read(const uint8_t *bytes, size_t bytes_length);
+
+/* ---- Generations: rekeying. Each connection has one record, which the host keeps beside it. ---- */
+
+/* The generation record of a connection. Begin with door_link_first_record and change it by the calls alone; `fin` is C's bool, 0 or 1. */
+struct door_link_generations {
+    uint16_t local;  /* how often this end has gone on to new keys, or owes it */
+    uint16_t remote; /* generation of the other side's frames */
+    uint16_t last;   /* generation of the frame that was sent last */
+    bool fin;        /* a frame with FINp was sent */
+};
+
+/* What a step gives back. */
+struct door_link_generation_step {
+    struct door_link_generations next; /* the record afterwards; as it was beside a refusal */
+    uint16_t number;
+    uint8_t kind;
+    uint8_t rekey; /* SENT: 1 where the frame carries rekey, else 0; for door_link_header_write */
+};
+
+/* The record of a new connection, fresh or resumed: generation 0. */
+struct door_link_generations door_link_first_record(void);
+
+/* Whether a frame with rekey is owed: then send one soon, with data or without. */
+bool door_link_is_owed(struct door_link_generations g);
+
+/* A frame is to be sent, with FINp or without: `number` is the generation whose keys cipher it. Pays what is owed.
+ * Replies: SENT. Refused: 14. */
+struct door_link_generation_step door_link_send(struct door_link_generations g, bool fin);
+
+/* This end goes on to new keys: the same as door_link_send, for a frame of the next generation.
+ *   has_data  whether the frame carries data
+ * Replies: SENT. Refused: 4 while a rekey frame is owed; 13; 14; 15. */
+struct door_link_generation_step door_link_initiate(struct door_link_generations g, bool has_data, bool fin);
+
+/* A frame came, with rekey or without, as its header says: `number` is the generation whose keys open it. Keep the later record once the tag was good, and the
+ * one before where it was not.
+ * Replies: RECEIVED. Refused: 13. */
+struct door_link_generation_step door_link_receive_frame(struct door_link_generations g, bool rekey);
+
+/* The same steps with the record behind a pointer: *g is the record before, and the record afterwards when the call returns. */
+
+static inline struct door_link_generation_step door_link_generations_send(struct door_link_generations *g, bool fin) {
+    struct door_link_generation_step step = door_link_send(*g, fin);
+    *g = step.next;
+    return step;
+}
+
+static inline struct door_link_generation_step door_link_generations_initiate(struct door_link_generations *g, bool has_data, bool fin) {
+    struct door_link_generation_step step = door_link_initiate(*g, has_data, fin);
+    *g = step.next;
+    return step;
+}
+
+static inline struct door_link_generation_step door_link_generations_receive(struct door_link_generations *g, bool rekey) {
+    struct door_link_generation_step step = door_link_receive_frame(*g, rekey);
+    *g = step.next;
+    return step;
+}
+
+/* ---- The judge: for captures, diagnosis and benchmarks. A door's calls use it inside. ---- */
+
+/* A session record, as door_link_store takes it. */
+struct door_link_session {
+    uint8_t tep;
+    uint8_t role; /* this end's in the connection that made the session: 0 host A, else host B */
+    uint8_t identifier[DOOR_LINK_IDENTIFIER];
+    uint8_t secret[DOOR_LINK_SECRET]; /* the judge does not look at it */
+};
+
+/* The record that this end proposed to resume, if any: where `held` is false, `session` is not looked at, and may be zeros. */
+struct door_link_hand {
+    bool held;
+    struct door_link_session session;
+};
+
+struct door_link_judgement {
+    struct door_link_reply reply;               /* as door_link_result's */
+    uint8_t transcript[DOOR_LINK_TRANSCRIPT];   /* host A's option, then host B's; zeros behind them, and where there is no transcript */
+};
+
+/* What two option areas of SYN segments come to, this end's own and the other side's, each 0 to 40 bytes.
+ * Replies: ENCRYPTED; PLAIN with reason 1 to 6. Refused: 2. */
+struct door_link_judgement door_link_judge(const uint8_t *own_area, size_t own_length, const uint8_t *peer_area, size_t peer_length, bool mandatory,
+                                           struct door_link_hand hand);
+
+#ifdef __cplusplus
+}
+#endif
+
+#endif
