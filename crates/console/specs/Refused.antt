@@ -2,8 +2,8 @@
 use Prim.Native.Nat.{ℕ}
 use Rattle.eno.specs.Area as area
 use Rattle.eno.specs.Option as option
-use Rattle.init.specs.Reading as reading
-use Rattle.frame.specs.Outcome as frame
+use Rattle.init_layout.specs.Reading as reading
+use Rattle.frame_layout.specs.Outcome as frame
 use Rattle.generation.specs.Steps as generation
 
 abbrev pub inStatus : area.Status → ℕ

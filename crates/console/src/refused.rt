@@ -12,8 +12,8 @@ use init::InitWritten;
 ghost use mathlib.Core.Path.{_≡_};
 ghost use Rattle.door.specs.Answers.{refusalNumber};
 ghost use Rattle.finder.specs.Answers.{statusOf};
-ghost use Rattle.init.specs.Answers.{writingOf, saysOf};
-ghost use Rattle.frame.specs.Answers.{writtenReply, headerReply, nonceReply, plaintextWrittenReply, plaintextReply};
+ghost use Rattle.init_layout.specs.Answers.{writingOf, saysOf};
+ghost use Rattle.frame_layout.specs.Answers.{writtenReply, headerReply, nonceReply, plaintextWrittenReply, plaintextReply};
 ghost use Rattle.generation.specs.Answers.{replyOf};
 ghost use Rattle.console.specs.Refused.{inStatus, inWriting, inSays, inFrame, inGeneration};
 

@@ -7,13 +7,13 @@ use Rattle.door.specs.declared.Reply.{Reply}
 use Rattle.door.specs.declared.Reply.the-variants as reply
 use Rattle.unit.specs.Run.{Step}
 use Rattle.unit.specs.declared.LinkUnit.{LinkUnit}
-use Rattle.link_unit.specs.Steps.{stepOf, resultOf}
-use Rattle.link_unit.specs.declared.Replied.{Replied}
-use Rattle.link_unit.specs.declared.Resulted.{Resulted}
+use Rattle.unit_step.specs.Steps.{stepOf, resultOf}
+use Rattle.unit_step.specs.declared.Replied.{Replied}
+use Rattle.unit_step.specs.declared.Resulted.{Resulted}
 use Rattle.host.specs.Replies.{numbersOf, replied, resulted, Gives, GivesResult}
-use Rattle.host.specs.declared.ReplyNumbers.{ReplyNumbers}
-use Rattle.host.specs.declared.unit_calls.LinkReply.{LinkReply}
-use Rattle.host.specs.declared.unit_calls.LinkResult.{LinkResult}
+use Rattle.host_reply.specs.declared.ReplyNumbers.{ReplyNumbers}
+use Rattle.host.specs.declared.LinkReply.{LinkReply}
+use Rattle.host.specs.declared.LinkResult.{LinkResult}
 
 abbrev linkReply : LinkUnit → ReplyNumbers → LinkReply
 linkReply u n = record { unit = u; reply = n }

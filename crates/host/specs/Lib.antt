@@ -1,12 +1,3 @@
--- The exported calls: what they give back in plain numbers, and that these lose nothing.
-pub mod Numbers
+-- What the exported calls give back in plain numbers, and that these lose nothing.
 pub mod Replies
 pub mod ReadBack
-pub mod InitReplies
-pub mod InitBack
-pub mod FrameReplies
-pub mod FrameBack
-pub mod GenerationReplies
-pub mod GenerationBack
-pub mod JudgeReplies
-pub mod JudgeBack

@@ -3,20 +3,13 @@ use Prim.Native.Nat.{ℕ, zero, suc}
 use mathlib.Core.Path.{_≡_, refl, sym, _∙_, ap, ap₂}
 use mathlib.Core.List.{List}
 use Rattle.eno.specs.Area.{Status, saysFound, saysNone, saysUnreadable, saysRefused}
-use Rattle.eno.specs.Judge.{Way, fresh, resumed}
+use Rattle.eno.specs.Judge.{Way}
 use Rattle.door.specs.Door.{Phase, idle, offering, crossed, answering, opened, unencrypted, phaseOf, phaseNumber}
 use Rattle.door.specs.Outcome.{Reply, refused, written, plain, nowIn, encrypted, done, holds}
 use Rattle.door.specs.Answers.{secretBeside}
-use Rattle.host.specs.Replies.{wayNumber, numbersOf, statusNumbers}
-use Rattle.host.specs.declared.ReplyNumbers.{ReplyNumbers}
-
-abbrev pub wayOf : ℕ → Way
-wayOf zero = fresh
-wayOf (suc n) = resumed
-
-pub way-back : (w : Way) → wayOf (wayNumber w) ≡ w
-way-back fresh = refl
-way-back resumed = refl
+use Rattle.host_reply.specs.Numbers.{wayOf, way-back}
+use Rattle.host.specs.Replies.{numbersOf, statusNumbers}
+use Rattle.host_reply.specs.declared.ReplyNumbers.{ReplyNumbers}
 
 phase-back : (p : Phase) → phaseOf (phaseNumber p) ≡ p
 unfolding phaseOf phaseNumber

@@ -3,20 +3,14 @@ use Prim.Native.Nat.{ℕ}
 use mathlib.Core.Path.{_≡_}
 use mathlib.Core.List.{List}
 use Rattle.eno.specs.Area.{Status, saysFound, saysNone, saysUnreadable, saysRefused}
-use Rattle.eno.specs.Judge.{Way, fresh, resumed}
 use Rattle.door.specs.Door.{phaseNumber}
 use Rattle.door.specs.Outcome.{Reply, refused, written, plain, nowIn, encrypted, done, holds}
 use Rattle.door.specs.Answers.{secretBeside}
 use Rattle.unit.specs.Run.{Step}
-use Rattle.host.specs.Numbers.{ofKind}
-use Rattle.host.specs.declared.ReplyNumbers.{ReplyNumbers}
-use Rattle.host.specs.declared.unit_calls.LinkReply.{LinkReply}
-use Rattle.host.specs.declared.unit_calls.LinkResult.{LinkResult}
-
--- 1 where a session is resumed
-abbrev pub wayNumber : Way → ℕ
-wayNumber fresh = 0
-wayNumber resumed = 1
+use Rattle.host_reply.specs.Numbers.{ofKind, wayNumber}
+use Rattle.host_reply.specs.declared.ReplyNumbers.{ReplyNumbers}
+use Rattle.host.specs.declared.LinkReply.{LinkReply}
+use Rattle.host.specs.declared.LinkResult.{LinkResult}
 
 -- document 01's reply in plain numbers
 unfoldable pub numbersOf : Reply → ReplyNumbers

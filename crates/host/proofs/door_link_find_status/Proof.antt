@@ -1,0 +1,71 @@
+-- `unit_calls::door_link_find_status` meets its contract.
+use Rattle.host.specs.Replies.{statusNumbers}
+use Rattle.host.proofs.Numbering.{status-numbers}
+use borrow.Author.Needs.{needs}
+use Rattle.host.proofs.door_link_find_status.Statement.{statement}
+use Rattle.host.proofs.door_link_find_status.Tie as tie
+use Rattle.host.proofs.door_link_find_status.Reads as reads
+use Rattle.host.proofs.door_link_find_status.Lts as lts
+use Rattle.finder.proofs.find_status.Reads as find-status-reads
+use Rattle.host_reply.proofs.of_kind.Reads as of-kind-reads
+
+find-status-requires : tie.Need-find-status-requires
+find-status-requires c κs = search needs
+
+enum-told : tie.Need-enum-told
+enum-told c = search needs
+
+of-kind-requires : tie.Need-of-kind-requires
+of-kind-requires c κs = search needs
+
+enum-told-2 : tie.Need-enum-told-2
+enum-told-2 c = search needs
+
+of-kind-requires-2 : tie.Need-of-kind-requires-2
+of-kind-requires-2 c κs = search needs
+
+enum-told-3 : tie.Need-enum-told-3
+enum-told-3 c = search needs
+
+of-kind-requires-3 : tie.Need-of-kind-requires-3
+of-kind-requires-3 c κs = search needs
+
+enum-told-4 : tie.Need-enum-told-4
+enum-told-4 c = search needs
+
+of-kind-requires-4 : tie.Need-of-kind-requires-4
+of-kind-requires-4 c κs = search needs
+
+returns : tie.Need-returns
+unfolding statusNumbers
+returns c = status-numbers _ _ _ _ (c .before .before .before .find-status .ensures) (c .before .enum-told .given .1) (c .of-kind .ensures)
+
+returns-2 : tie.Need-returns-2
+unfolding statusNumbers
+returns-2 c = status-numbers _ _ _ _ (c .before .before .before .find-status .ensures) (c .before .enum-told2 .given .1) (c .of-kind2 .ensures)
+
+returns-3 : tie.Need-returns-3
+unfolding statusNumbers
+returns-3 c = status-numbers _ _ _ _ (c .before .before .before .find-status .ensures) (c .before .enum-told3 .given .1) (c .of-kind3 .ensures)
+
+returns-4 : tie.Need-returns-4
+unfolding statusNumbers
+returns-4 c = status-numbers _ _ _ _ (c .before .before .before .find-status .ensures) (c .before .enum-told4 .given .1) (c .of-kind4 .ensures)
+
+pub door-link-find-status-spec : {M : Type 1} → statement M
+door-link-find-status-spec =
+    tie.close
+    (tie.spec
+    find-status-requires
+    enum-told
+    of-kind-requires
+    enum-told-2
+    of-kind-requires-2
+    enum-told-3
+    of-kind-requires-3
+    enum-told-4
+    of-kind-requires-4
+    returns
+    returns-2
+    returns-3
+    returns-4)

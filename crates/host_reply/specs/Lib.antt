@@ -1,0 +1,3 @@
+-- The plain numbers of replies.
+pub mod Numbers
+pub mod Telling
