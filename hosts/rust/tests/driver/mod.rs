@@ -9,6 +9,7 @@ pub mod frames;
 pub mod generations;
 pub mod init;
 pub mod isolation;
+pub mod judge;
 pub mod links;
 pub mod list;
 pub mod options;
