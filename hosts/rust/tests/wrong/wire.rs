@@ -77,7 +77,7 @@ impl Wrong {
         again: impl Fn(&[u8]) -> Answer<T>,
     ) -> Answer<T> {
         match answer {
-            Err(8) if self.is(Fault::MagicIncomplete) && bytes.len() < 8 => Err(9),
+            Err(8) if self.is(Fault::MagicIncomplete) && bytes.len() <= 4 => Err(9),
             Err(9) if self.is(Fault::CipherTooSoon) => {
                 let mut whole = bytes.to_vec();
                 whole.resize(bytes.len().max(4096), 0);
