@@ -43,6 +43,7 @@ pub struct Plaintext<'a> {
 /// assert_eq!(next_offset(75, 17), Ok(95));
 /// assert_eq!(next_offset(75, 16), Err(Error::Refused(Refusal::BeyondFrame)));
 /// ```
+#[inline]
 pub fn next_offset(offset: u64, length: usize) -> Result<u64, Error> {
     read(&ffi::frame::next_offset(offset, length), 0, Told::next)
 }
@@ -62,6 +63,7 @@ pub fn next_offset(offset: u64, length: usize) -> Result<u64, Error> {
 /// # Ok(())
 /// # }
 /// ```
+#[inline]
 pub fn write_header(rekey: bool, length: usize, offset: u64, out: &mut [u8]) -> Result<u64, Error> {
     let reply = ffi::frame::header_write(rekey, length, offset, out);
     let room = out.len() >= HEADER;
@@ -72,11 +74,13 @@ pub fn write_header(rekey: bool, length: usize, offset: u64, out: &mut [u8]) -> 
 /// associated data.
 ///
 /// Refused: 9 below three bytes; 11 as for [`next_offset`].
+#[inline]
 pub fn read_header(bytes: &[u8], offset: u64) -> Result<Header, Error> {
     header(&ffi::frame::header_read(bytes, offset))
 }
 
 /// Reads a header's numbers, each one tested.
+#[inline]
 fn header(numbers: &ffi::frame::HeaderNumbers) -> Result<Header, Error> {
     match (numbers.kind, numbers.clen, numbers.rekey) {
         (0, 0, 0) if numbers.associated == [0; HEADER] => Err(refusal(numbers.number)),
@@ -96,6 +100,7 @@ fn header(numbers: &ffi::frame::HeaderNumbers) -> Result<Header, Error> {
 /// let id = [0x44, 0x41, 0x54, 0x41, 0, 0, 0, 0, 0, 0, 1, 2];
 /// assert_eq!(door_link::frame_id(0x0102), id);
 /// ```
+#[inline]
 pub fn frame_id(offset: u64) -> [u8; FRAME_NONCE] {
     ffi::frame::frame_id(offset).bytes
 }
@@ -109,11 +114,13 @@ pub fn frame_id(offset: u64) -> [u8; FRAME_NONCE] {
 /// let expected = [0xbb, 0xbe, 0xab, 0xbe, 0xff, 0xff, 0xff, 0xff, 0xff, 0xff, 0xff, 0xb4];
 /// assert_eq!(nonce, Ok(expected));
 /// ```
+#[inline]
 pub fn nonce(fixed: &[u8], offset: u64) -> Result<[u8; FRAME_NONCE], Error> {
     made(&ffi::frame::nonce(fixed, offset))
 }
 
 /// Reads a nonce's numbers, each one tested.
+#[inline]
 fn made(numbers: &ffi::frame::NonceNumbers) -> Result<[u8; FRAME_NONCE], Error> {
     match (numbers.kind, numbers.number) {
         (0, number) if numbers.nonce == [0; FRAME_NONCE] => Err(refusal(number)),
@@ -137,6 +144,7 @@ fn made(numbers: &ffi::frame::NonceNumbers) -> Result<[u8; FRAME_NONCE], Error> 
 /// # Ok(())
 /// # }
 /// ```
+#[inline]
 pub fn write_plaintext(
     fin: bool,
     urgent: Option<u16>,
@@ -151,11 +159,13 @@ pub fn write_plaintext(
 /// Reads a frame's plaintext, all of `bytes`. Bits that are reserved are ignored.
 ///
 /// Refused: 12 where there is no byte, or URGp with fewer than three.
+#[inline]
 pub fn read_plaintext(bytes: &[u8]) -> Result<Plaintext<'_>, Error> {
     plaintext(&ffi::frame::plaintext_read(bytes), bytes)
 }
 
 /// Reads a plaintext's numbers, each one tested.
+#[inline]
 fn plaintext<'a>(
     numbers: &ffi::frame::PlaintextNumbers,
     bytes: &'a [u8],

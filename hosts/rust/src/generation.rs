@@ -44,6 +44,7 @@ pub struct Sent {
 
 impl Generations {
     /// The record of a new connection: all numbers 0, no FINp.
+    #[inline]
     pub fn new() -> Result<Generations, Error> {
         taken(ffi::generation::first_record())
     }
@@ -51,6 +52,7 @@ impl Generations {
     /// A frame is to be sent, with FINp or without. One generation at a time: where a rekey frame is owed, this is it.
     ///
     /// Refused: 14.
+    #[inline]
     pub fn send(&mut self, fin: bool) -> Result<Sent, Error> {
         let (next, sent) = sent(&ffi::generation::send(*self, fin), *self)?;
         *self = next;
@@ -60,6 +62,7 @@ impl Generations {
     /// This end begins the next generation, and sends one frame, with data or without, with FINp or without.
     ///
     /// Refused: 4 where a rekey frame is owed; 13; 14; 15 without data while `remote` is below `local`.
+    #[inline]
     pub fn initiate(&mut self, has_data: bool, fin: bool) -> Result<Sent, Error> {
         let (next, sent) = sent(&ffi::generation::initiate(*self, has_data, fin), *self)?;
         *self = next;
@@ -69,6 +72,7 @@ impl Generations {
     /// A frame was received, with the rekey bit or without; gives the generation whose key opens it.
     ///
     /// Refused: 13.
+    #[inline]
     pub fn receive(&mut self, rekey: bool) -> Result<u16, Error> {
         let (next, generation) = received(&ffi::generation::receive_frame(*self, rekey), *self)?;
         *self = next;
@@ -76,12 +80,14 @@ impl Generations {
     }
 
     /// Whether a rekey frame is owed: `local` is above `last`. Never refused.
+    #[inline]
     pub fn is_owed(&self) -> Result<bool, Error> {
         flag(ffi::generation::is_owed(*self))
     }
 }
 
 /// A record as the library gave it back.
+#[inline]
 fn taken(record: ffi::generation::Record) -> Result<Generations, Error> {
     Ok(Generations {
         local: record.local,
@@ -92,6 +98,7 @@ fn taken(record: ffi::generation::Record) -> Result<Generations, Error> {
 }
 
 /// The refusal of a step, which leaves the record as it was.
+#[inline]
 fn refused(numbers: &ffi::generation::GenerationNumbers, before: Generations) -> Error {
     match (numbers.kind, numbers.rekey) {
         (0, 0) if numbers.next == before.into() => refusal(usize::from(numbers.number)),
@@ -100,6 +107,7 @@ fn refused(numbers: &ffi::generation::GenerationNumbers, before: Generations) ->
 }
 
 /// Reads the numbers of a frame to be sent, each one tested.
+#[inline]
 fn sent(
     numbers: &ffi::generation::GenerationNumbers,
     before: Generations,
@@ -115,6 +123,7 @@ fn sent(
 }
 
 /// Reads the numbers of a frame received, each one tested.
+#[inline]
 fn received(
     numbers: &ffi::generation::GenerationNumbers,
     before: Generations,

@@ -44,26 +44,31 @@ pub struct Init {
 
 impl Init {
     /// The cipher agreed on: of an Init1 the first listed one that is enabled, of an Init2 the one that it names.
+    #[inline]
     pub const fn cipher(&self) -> u16 {
         self.cipher
     }
 
     /// How many ciphers the message lists; an Init2 names one.
+    #[inline]
     pub const fn count(&self) -> usize {
         self.count
     }
 
     /// The length of the whole message, ignored bytes behind the key included. What follows is not the message's.
+    #[inline]
     pub const fn length(&self) -> usize {
         self.length
     }
 
     /// The sender's nonce.
+    #[inline]
     pub const fn nonce(&self) -> &[u8; INIT_NONCE] {
         &self.nonce
     }
 
     /// The sender's public key: 32 bytes for Curve25519, 56 for Curve448.
+    #[inline]
     pub fn key(&self) -> &[u8] {
         self.key.get(..self.key_length).unwrap_or(&self.key)
     }
@@ -79,6 +84,7 @@ const fn key_length(tep: u8) -> Option<usize> {
 }
 
 /// Reads a reader's numbers, each one tested; `room` is how many bytes were at hand.
+#[inline]
 fn init(numbers: &ffi::init::InitNumbers, tep: u8, room: usize) -> Result<Init, Error> {
     let zeros = |bytes: &[u8]| bytes.iter().fold(0, |all, byte| all | byte) == 0;
     let ffi::init::InitNumbers {
@@ -135,6 +141,7 @@ fn init(numbers: &ffi::init::InitNumbers, tep: u8, room: usize) -> Result<Init, 
 /// # Ok(())
 /// # }
 /// ```
+#[inline]
 pub fn init1_write(
     tep: u8,
     ciphers: &[u16],
@@ -165,6 +172,7 @@ pub fn init1_write(
 /// # Ok(())
 /// # }
 /// ```
+#[inline]
 pub fn init2_write(
     tep: u8,
     cipher: u16,
@@ -180,6 +188,7 @@ pub fn init2_write(
 ///
 /// Refused: 3 where `tep` is another than the two of [`init1_write`]; 8 where no continuation of `bytes` is readable (another magic, a length above
 /// 4,096 or too short for the fields); 9 where some continuation is; 10 where no listed cipher is enabled, once all of the message is there.
+#[inline]
 pub fn init1_read(tep: u8, enabled: Enabled, bytes: &[u8]) -> Result<Init, Error> {
     init(
         &ffi::init::init1_read(tep, enabled, bytes),
@@ -192,6 +201,7 @@ pub fn init1_read(tep: u8, enabled: Enabled, bytes: &[u8]) -> Result<Init, Error
 ///
 /// Refused: 3 where `tep` is another than the two of [`init1_write`], or `own` has more than 255 ciphers; 8 and 9 as for [`init1_read`]; 10 where the
 /// message's cipher is not in `own`, once all of the message is there.
+#[inline]
 pub fn init2_read(tep: u8, own: &[u16], bytes: &[u8]) -> Result<Init, Error> {
     init(&ffi::init::init2_read(tep, own, bytes), tep, bytes.len())
 }

@@ -25,6 +25,7 @@ pub struct Transcript {
 
 impl Transcript {
     /// The transcript's bytes.
+    #[inline]
     pub fn bytes(&self) -> &[u8] {
         self.bytes.get(..self.length).unwrap_or(&self.bytes)
     }
@@ -79,6 +80,7 @@ pub enum Judgement {
 /// # Ok(())
 /// # }
 /// ```
+#[inline]
 pub fn judge(
     own: &[u8],
     peer: &[u8],
@@ -89,6 +91,7 @@ pub fn judge(
 }
 
 /// Reads the judge's numbers, each one tested: bytes past the transcript are zeros, and all of them where there is none.
+#[inline]
 fn judgement(numbers: &ffi::judge::JudgementNumbers) -> Result<Judgement, Error> {
     let told = Told::read(&numbers.reply, TRANSCRIPT);
     let length = match &told {

@@ -59,6 +59,7 @@ impl Refusal {
         self as u8
     }
 
+    #[inline]
     fn read(number: usize) -> Option<Refusal> {
         Some(match number {
             1 => Refusal::NoDoor,
@@ -297,6 +298,7 @@ pub(crate) enum Told {
 
 impl Told {
     /// Reads the library's numbers; `room` is the length of the lent buffer. What a kind does not have must be 0.
+    #[inline]
     pub(crate) fn read(reply: &ffi::Reply, room: usize) -> Result<Told, Error> {
         match (reply.kind, reply.role, reply.tep, reply.resumed) {
             (0, 0, 0, 0) => Err(refusal(reply.number)),
@@ -314,6 +316,7 @@ impl Told {
     }
 
     /// The kinds that have a number alone. (No TEP byte is 0, so that an encrypted connection is none of them.)
+    #[inline]
     fn bare(kind: u8, number: usize, room: usize) -> Option<Told> {
         Some(match (kind, number) {
             (1, length) if length <= room => Told::Written(length),
@@ -333,6 +336,7 @@ impl Told {
         })
     }
 
+    #[inline]
     pub(crate) fn written(self) -> Option<usize> {
         match self {
             Told::Written(length) => Some(length),
@@ -340,6 +344,7 @@ impl Told {
         }
     }
 
+    #[inline]
     pub(crate) fn next(self) -> Option<u64> {
         match self {
             Told::Next(next) => Some(next),
@@ -356,11 +361,13 @@ impl Told {
 }
 
 /// The refusal of this number, if there is one.
+#[inline]
 pub(crate) fn refusal(number: usize) -> Error {
     Refusal::read(number).map_or(Error::Unexpected, Error::Refused)
 }
 
 /// A flag in numbers.
+#[inline]
 pub(crate) fn flag(number: u8) -> Result<bool, Error> {
     match number {
         0 => Ok(false),
@@ -370,6 +377,7 @@ pub(crate) fn flag(number: u8) -> Result<bool, Error> {
 }
 
 /// The value of a reply; none where it is not one that the call has.
+#[inline]
 pub(crate) fn read<T>(
     reply: &ffi::Reply,
     room: usize,

@@ -1,5 +1,6 @@
 //! The model on the papers' examples, and the random comparison of the library with the model, call by call.
 
+mod bench;
 mod binding;
 mod driver;
 mod model;

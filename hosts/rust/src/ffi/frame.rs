@@ -82,31 +82,37 @@ extern "C" {
     fn door_link_plaintext_read(bytes: *const u8, bytes_length: usize) -> PlaintextNumbers;
 }
 
+#[inline]
 pub(crate) fn next_offset(offset: u64, clen: usize) -> Reply {
     // SAFETY: the call takes numbers alone.
     unsafe { door_link_next_offset(offset, clen) }
 }
 
+#[inline]
 pub(crate) fn header_write(rekey: bool, clen: usize, offset: u64, out: &mut [u8]) -> Reply {
     // SAFETY: pointer and length are those of a slice that is lent alone.
     unsafe { door_link_header_write(rekey, clen, offset, out.as_mut_ptr(), out.len()) }
 }
 
+#[inline]
 pub(crate) fn header_read(bytes: &[u8], offset: u64) -> HeaderNumbers {
     // SAFETY: pointer and length are those of a slice.
     unsafe { door_link_header_read(bytes.as_ptr(), bytes.len(), offset) }
 }
 
+#[inline]
 pub(crate) fn frame_id(offset: u64) -> FrameId {
     // SAFETY: the call takes a number alone.
     unsafe { door_link_frame_id(offset) }
 }
 
+#[inline]
 pub(crate) fn nonce(fixed: &[u8], offset: u64) -> NonceNumbers {
     // SAFETY: pointer and length are those of a slice.
     unsafe { door_link_nonce(fixed.as_ptr(), fixed.len(), offset) }
 }
 
+#[inline]
 pub(crate) fn plaintext_write(
     fin: bool,
     urg: bool,
@@ -128,6 +134,7 @@ pub(crate) fn plaintext_write(
     }
 }
 
+#[inline]
 pub(crate) fn plaintext_read(bytes: &[u8]) -> PlaintextNumbers {
     // SAFETY: pointer and length are those of a slice.
     unsafe { door_link_plaintext_read(bytes.as_ptr(), bytes.len()) }

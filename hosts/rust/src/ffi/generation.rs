@@ -44,6 +44,7 @@ extern "C" {
 }
 
 impl From<Generations> for Record {
+    #[inline]
     fn from(g: Generations) -> Record {
         Record {
             local: g.local,
@@ -54,26 +55,31 @@ impl From<Generations> for Record {
     }
 }
 
+#[inline]
 pub(crate) fn first_record() -> Record {
     // SAFETY: the call takes nothing.
     unsafe { door_link_first_record() }
 }
 
+#[inline]
 pub(crate) fn is_owed(g: Generations) -> u8 {
     // SAFETY: the record's flag is 0 or 1.
     unsafe { door_link_is_owed(g.into()) }
 }
 
+#[inline]
 pub(crate) fn send(g: Generations, fin: bool) -> GenerationNumbers {
     // SAFETY: the record's flag is 0 or 1.
     unsafe { door_link_send(g.into(), fin) }
 }
 
+#[inline]
 pub(crate) fn initiate(g: Generations, has_data: bool, fin: bool) -> GenerationNumbers {
     // SAFETY: the record's flag is 0 or 1.
     unsafe { door_link_initiate(g.into(), has_data, fin) }
 }
 
+#[inline]
 pub(crate) fn receive_frame(g: Generations, rekey: bool) -> GenerationNumbers {
     // SAFETY: the record's flag is 0 or 1.
     unsafe { door_link_receive_frame(g.into(), rekey) }

@@ -64,6 +64,7 @@ extern "C" {
     ) -> InitNumbers;
 }
 
+#[inline]
 pub(crate) fn init1_write(
     tep: u8,
     ciphers: &[u16],
@@ -87,6 +88,7 @@ pub(crate) fn init1_write(
     }
 }
 
+#[inline]
 pub(crate) fn init2_write(tep: u8, cipher: u16, nonce: &[u8], key: &[u8], out: &mut [u8]) -> Reply {
     // SAFETY: pointers and lengths are those of slices, and `out` is lent alone.
     unsafe {
@@ -103,6 +105,7 @@ pub(crate) fn init2_write(tep: u8, cipher: u16, nonce: &[u8], key: &[u8], out: &
     }
 }
 
+#[inline]
 pub(crate) fn init1_read(tep: u8, enabled: Enabled, bytes: &[u8]) -> InitNumbers {
     let Enabled {
         aes128,
@@ -113,6 +116,7 @@ pub(crate) fn init1_read(tep: u8, enabled: Enabled, bytes: &[u8]) -> InitNumbers
     unsafe { door_link_init1_read(tep, aes128, aes256, chacha20, bytes.as_ptr(), bytes.len()) }
 }
 
+#[inline]
 pub(crate) fn init2_read(tep: u8, own: &[u16], bytes: &[u8]) -> InitNumbers {
     // SAFETY: pointers and lengths are those of slices.
     unsafe { door_link_init2_read(tep, own.as_ptr(), own.len(), bytes.as_ptr(), bytes.len()) }

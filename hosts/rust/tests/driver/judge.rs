@@ -56,7 +56,7 @@ fn option(b: u8, aware: bool, teps: &[u8], resumption: Option<(u8, &[u8], &[u8])
 
 /// What two ends send to each other that mean to open a connection: host A's list, host B's answer to it, often with a session that both hold.
 /// Either of them judges.
-fn real(random: &mut Random) -> Ask {
+pub fn real(random: &mut Random) -> Ask {
     let held = Record {
         role: random.below(2) as u8,
         ..record(random)
@@ -99,7 +99,7 @@ fn real(random: &mut Random) -> Ask {
 }
 
 /// Something happened to one of the areas, or to the record in hand.
-fn altered(random: &mut Random) -> Ask {
+pub fn altered(random: &mut Random) -> Ask {
     let mut ask = real(random);
     let quotes: Vec<Quote> = ask.in_hand.iter().flat_map(quotes).collect();
     match random.below(8) {
@@ -119,7 +119,7 @@ fn altered(random: &mut Random) -> Ask {
 }
 
 /// Made-up options that quote the record in hand.
-fn invented(random: &mut Random) -> Ask {
+pub fn invented(random: &mut Random) -> Ask {
     let in_hand = random.chance(60).then(|| record(random));
     let quotes: Vec<Quote> = in_hand.iter().flat_map(quotes).collect();
     let own = made_up(random, 0, &quotes);
