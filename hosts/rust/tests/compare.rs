@@ -11,7 +11,7 @@ use driver::calls::Unit;
 use driver::counts::Counts;
 use driver::links::{Links, STRANGE};
 use driver::random::{calls, seed};
-use driver::{every, finder, frames, generations, init, isolation, judge};
+use driver::{every, finder, frames, generations, init, isolation, judge, limits};
 use model::{Model, Wire};
 
 fn good<T>(outcome: Result<T, String>) -> T {
@@ -84,6 +84,19 @@ fn small_cases_in_full() {
     pool.print("the full pool");
     assert_eq!(pool.of("records brought out"), 96);
     assert_eq!(pool.of("resumed open"), 96);
+}
+
+/// Every ciphertext length, generation records at the limits, every short option before the judge.
+#[test]
+fn limits_in_full() {
+    let lengths = good(limits::lengths(&Wire, &Calls));
+    lengths.print("every ciphertext length");
+    lengths.demand(["success", "refusal 11"]);
+    let records = good(limits::records(&Wire, &Calls));
+    records.print("records at the limits");
+    records.demand_refusals(&[4, 13, 14, 15]);
+    println!("short options before the judge");
+    println!("  calls {}", good(limits::judged(&Wire, &Calls)));
 }
 
 /// Pairs of option areas.

@@ -75,13 +75,16 @@ pub fn init2_write(
     write(INIT2, tep, None, &[cipher], nonce, key, out)
 }
 
-/// The whole message, its ciphers, and the nonce and key behind them; or 8 or 9.
-fn fields(
-    magic: [u8; 4],
-    counted: bool,
-    key: usize,
-    bytes: &[u8],
-) -> Result<(&[u8], &[u8], &[u8]), u8> {
+/// A readable message: its length, its ciphers, and the nonce and the key behind them.
+struct Fields<'a> {
+    length: usize,
+    ciphers: &'a [u8],
+    nonce: &'a [u8],
+    key: &'a [u8],
+}
+
+/// The fields, or 8 or 9.
+fn fields(magic: [u8; 4], counted: bool, key: usize, bytes: &[u8]) -> Result<Fields<'_>, u8> {
     let seen = bytes.len().min(4);
     if bytes[..seen] != magic[..seen] {
         return Err(8);
@@ -108,41 +111,40 @@ fn fields(
         return Err(8);
     }
     let message = bytes.get(..length).ok_or(9)?;
-    Ok((
-        message,
-        &message[at..behind],
-        &message[behind..behind + 32 + key],
-    ))
+    Ok(Fields {
+        length,
+        ciphers: &message[at..behind],
+        nonce: &message[behind..behind + 32],
+        key: &message[behind + 32..behind + 32 + key],
+    })
 }
 
-fn taken(message: &[u8], ciphers: &[u8], rest: &[u8], cipher: u16) -> Init {
+fn taken(fields: &Fields, cipher: u16) -> Init {
     let mut init = Init {
         cipher,
-        count: ciphers.len() / 2,
-        length: message.len(),
+        count: fields.ciphers.len() / 2,
+        length: fields.length,
         nonce: [0; 32],
         key: [0; 56],
     };
-    let (nonce, key) = rest.split_at(32);
-    init.nonce.copy_from_slice(nonce);
-    init.key[..key.len()].copy_from_slice(key);
+    init.nonce.copy_from_slice(fields.nonce);
+    init.key[..fields.key.len()].copy_from_slice(fields.key);
     init
 }
 
 #[inline(never)]
 pub fn init1_read(tep: u8, enabled: [bool; 3], bytes: &[u8]) -> Result<Init, u8> {
-    let (message, ciphers, rest) = fields(INIT1, true, key_length(tep)?, bytes)?;
+    let fields = fields(INIT1, true, key_length(tep)?, bytes)?;
     let [aes128, aes256, chacha20] = enabled;
-    let mut listed = ciphers
-        .chunks_exact(2)
-        .map(|c| u16::from_be_bytes([c[0], c[1]]));
+    let listed = fields.ciphers.chunks_exact(2);
+    let mut listed = listed.map(|c| u16::from_be_bytes([c[0], c[1]]));
     let cipher = listed.find(|cipher| match cipher {
         0x0001 => aes128,
         0x0002 => aes256,
         0x0010 => chacha20,
         _ => false,
     });
-    Ok(taken(message, ciphers, rest, cipher.ok_or(10)?))
+    Ok(taken(&fields, cipher.ok_or(10)?))
 }
 
 #[inline(never)]
@@ -150,10 +152,10 @@ pub fn init2_read(tep: u8, own: &[u16], bytes: &[u8]) -> Result<Init, u8> {
     if own.len() > 255 {
         return Err(3);
     }
-    let (message, ciphers, rest) = fields(INIT2, false, key_length(tep)?, bytes)?;
-    let cipher = u16::from_be_bytes([ciphers[0], ciphers[1]]);
+    let fields = fields(INIT2, false, key_length(tep)?, bytes)?;
+    let cipher = u16::from_be_bytes([fields.ciphers[0], fields.ciphers[1]]);
     if !own.contains(&cipher) {
         return Err(10);
     }
-    Ok(taken(message, ciphers, rest, cipher))
+    Ok(taken(&fields, cipher))
 }

@@ -120,6 +120,9 @@ fn time<T>(block: &[Pair], judge: impl Fn(&Pair) -> T) -> f64 {
     })
 }
 
+/// A kind of pairs: its name, how many are judged, and how one is made.
+type Kind = (&'static str, usize, fn(&mut Random) -> Ask);
+
 /// The summed times of the judges over so many pairs of a kind.
 fn over(random: &mut Random, pairs: usize, kind: fn(&mut Random) -> Ask) -> [f64; 5] {
     let mut times = [0.0; 5];
@@ -167,7 +170,7 @@ pub fn run() {
     head(&title, &columns);
     let mut all = [0.0; 5];
     let mut count = 0;
-    let kinds: [(&str, usize, fn(&mut Random) -> Ask); 3] = [
+    let kinds: [Kind; 3] = [
         ("such as two ends send", 700_000, real),
         ("one of them damaged", 150_000, altered),
         ("made up", 150_000, invented),
