@@ -25,7 +25,7 @@ pub enum Refusal {
     AreaTooLong = 2,
     /// An argument does not fit: each call says which.
     Unfit = 3,
-    /// The call is not for the phase that the door is in.
+    /// The call is not for the phase that the door is in; or a rekey frame is owed, so that none may be begun.
     OutOfTurn = 4,
     /// The lent buffer is shorter than what is to be written.
     NoRoom = 5,
@@ -33,6 +33,22 @@ pub enum Refusal {
     Full = 6,
     /// The door holds, or has in hand, a record of this TEP and identifier.
     AlreadyHeld = 7,
+    /// The bytes are no Init message, whatever follows them.
+    NotInit = 8,
+    /// The Init message is not complete; or a frame's header is below three bytes.
+    Incomplete = 9,
+    /// There is no common cipher.
+    NoCipher = 10,
+    /// The frame's ciphertext is below 17 or above 65,535 bytes (a plaintext above 65,519), or the offset after it passes 2^64 - 1.
+    BeyondFrame = 11,
+    /// The plaintext has no bytes, or URGp and fewer than three.
+    ShortPlaintext = 12,
+    /// A generation would pass 65,535.
+    LastGeneration = 13,
+    /// FINp was sent.
+    AfterFin = 14,
+    /// A generation may not be begun without data while the other end's is below this end's.
+    NoData = 15,
     /// The door holds no record of this TEP and identifier.
     NotHeld = 16,
 }
@@ -43,6 +59,7 @@ impl Refusal {
         self as u8
     }
 
+    #[inline]
     fn read(number: usize) -> Option<Refusal> {
         Some(match number {
             1 => Refusal::NoDoor,
@@ -52,6 +69,14 @@ impl Refusal {
             5 => Refusal::NoRoom,
             6 => Refusal::Full,
             7 => Refusal::AlreadyHeld,
+            8 => Refusal::NotInit,
+            9 => Refusal::Incomplete,
+            10 => Refusal::NoCipher,
+            11 => Refusal::BeyondFrame,
+            12 => Refusal::ShortPlaintext,
+            13 => Refusal::LastGeneration,
+            14 => Refusal::AfterFin,
+            15 => Refusal::NoData,
             16 => Refusal::NotHeld,
             _ => return None,
         })
@@ -64,10 +89,20 @@ impl fmt::Display for Refusal {
             Refusal::NoDoor => "there is no such door",
             Refusal::AreaTooLong => "the option area is above 40 bytes",
             Refusal::Unfit => "an argument does not fit",
-            Refusal::OutOfTurn => "out of turn for the door's phase",
+            Refusal::OutOfTurn => "out of turn",
             Refusal::NoRoom => "the lent buffer is too short",
             Refusal::Full => "the door holds four session records",
             Refusal::AlreadyHeld => "the door has this session record already",
+            Refusal::NotInit => "no Init message begins so",
+            Refusal::Incomplete => "more bytes are needed",
+            Refusal::NoCipher => "there is no common cipher",
+            Refusal::BeyondFrame => "a length or an offset that no frame has",
+            Refusal::ShortPlaintext => "the plaintext is too short",
+            Refusal::LastGeneration => "the generations are used up",
+            Refusal::AfterFin => "FINp was sent",
+            Refusal::NoData => {
+                "a generation is begun with data, or once the other end has followed"
+            }
             Refusal::NotHeld => "the door does not hold this session record",
         })
     }
@@ -258,16 +293,15 @@ pub(crate) enum Told {
     Done,
     Holds(usize),
     Status(Status),
+    Next(u64),
 }
 
 impl Told {
     /// Reads the library's numbers; `room` is the length of the lent buffer. What a kind does not have must be 0.
+    #[inline]
     pub(crate) fn read(reply: &ffi::Reply, room: usize) -> Result<Told, Error> {
         match (reply.kind, reply.role, reply.tep, reply.resumed) {
-            (0, 0, 0, 0) => Err(match Refusal::read(reply.number) {
-                Some(refusal) => Error::Refused(refusal),
-                None => Error::Unexpected,
-            }),
+            (0, 0, 0, 0) => Err(refusal(reply.number)),
             (kind, 0, 0, 0) => Told::bare(kind, reply.number, room).ok_or(Error::Unexpected),
             (4, role @ 0..=1, tep, resumed @ 0..=1) if reply.number <= room => {
                 Ok(Told::Encrypted {
@@ -282,6 +316,7 @@ impl Told {
     }
 
     /// The kinds that have a number alone. (No TEP byte is 0, so that an encrypted connection is none of them.)
+    #[inline]
     fn bare(kind: u8, number: usize, room: usize) -> Option<Told> {
         Some(match (kind, number) {
             (1, length) if length <= room => Told::Written(length),
@@ -296,13 +331,23 @@ impl Told {
             (7, 0) => Told::Status(Status::Found),
             (8, 0) => Told::Status(Status::Nothing),
             (9, 0) => Told::Status(Status::Unreadable),
+            (11, next) => Told::Next(next as u64),
             _ => return None,
         })
     }
 
+    #[inline]
     pub(crate) fn written(self) -> Option<usize> {
         match self {
             Told::Written(length) => Some(length),
+            _ => None,
+        }
+    }
+
+    #[inline]
+    pub(crate) fn next(self) -> Option<u64> {
+        match self {
+            Told::Next(next) => Some(next),
             _ => None,
         }
     }
@@ -315,7 +360,24 @@ impl Told {
     }
 }
 
+/// The refusal of this number, if there is one.
+#[inline]
+pub(crate) fn refusal(number: usize) -> Error {
+    Refusal::read(number).map_or(Error::Unexpected, Error::Refused)
+}
+
+/// A flag in numbers.
+#[inline]
+pub(crate) fn flag(number: u8) -> Result<bool, Error> {
+    match number {
+        0 => Ok(false),
+        1 => Ok(true),
+        _ => Err(Error::Unexpected),
+    }
+}
+
 /// The value of a reply; none where it is not one that the call has.
+#[inline]
 pub(crate) fn read<T>(
     reply: &ffi::Reply,
     room: usize,
@@ -381,8 +443,7 @@ mod tests {
     #[test]
     fn numbers_that_the_header_has_not() {
         for (kind, least, most) in [
-            (0, 1, 7),
-            (0, 16, 16),
+            (0, 1, 16),
             (1, 0, 40),
             (2, 1, 7),
             (3, 0, 4),
@@ -402,9 +463,14 @@ mod tests {
             assert!(unexpected(read(usize::MAX, kind, 0, 0, 0)));
             assert!(least == 0 || unexpected(read(least - 1, kind, 0, 0, 0)));
         }
-        for kind in 10..=255 {
+        for kind in (10..=255).filter(|kind| *kind != 11) {
             assert!(unexpected(read(0, kind, 0, 0, 0)));
         }
+        assert!(matches!(
+            read(usize::MAX, 11, 0, 0, 0),
+            Ok(Told::Next(u64::MAX))
+        ));
+        assert!(unexpected(read(95, 11, 1, 0, 0)));
         assert!(!unexpected(read(40, 4, 1, 0xa3, 1)));
         assert!(unexpected(read(41, 4, 1, 0xa3, 1)));
         assert!(unexpected(read(40, 4, 2, 0xa3, 1)));
@@ -416,8 +482,7 @@ mod tests {
     fn refusals_and_reasons_keep_their_numbers() {
         for number in 0..=300 {
             let refusal = Refusal::read(number).map(|refusal| usize::from(refusal.number()));
-            let known = matches!(number, 1..=7 | 16);
-            assert_eq!(refusal, known.then_some(number));
+            assert_eq!(refusal, (1..=16).contains(&number).then_some(number));
             let reason = Reason::read(number).map(|reason| usize::from(reason.number()));
             assert_eq!(reason, (1..=7).contains(&number).then_some(number));
         }

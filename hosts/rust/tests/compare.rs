@@ -1,16 +1,17 @@
 //! The model on the papers' examples, and the random comparison of the library with the model, call by call.
 
+mod bench;
 mod binding;
 mod driver;
 mod model;
 mod wrong;
 
-use binding::{Binding, Word};
+use binding::{Binding, Calls};
 use driver::calls::Unit;
 use driver::counts::Counts;
 use driver::links::{Links, STRANGE};
 use driver::random::{calls, seed};
-use driver::{every, finder, frames, generations, init, isolation};
+use driver::{every, finder, frames, generations, init, isolation, judge, limits};
 use model::{Model, Wire};
 
 fn good<T>(outcome: Result<T, String>) -> T {
@@ -63,10 +64,10 @@ fn doors_of_the_model_learn_nothing_of_each_other() {
     isolated("pairs of lists of the model", Model::new);
 }
 
-/// The finder's word.
+/// The finder's word; its part has no export.
 #[test]
 fn option_areas() {
-    let counts = good(finder::compare(seed(), calls(), &Wire, &Word));
+    let counts = good(finder::compare(seed(), calls(), &Wire, &Calls));
     counts.print("option areas");
     counts.demand(["found", "none", "unreadable", "refusal  2"]);
 }
@@ -78,29 +79,69 @@ fn small_cases_in_full() {
     options.print("short options");
     options.demand(["fresh open", "reason 3", "reason 4", "reason 5", "reason 6"]);
     println!("short areas");
-    println!("  calls {}", good(every::areas(&Wire, &Word)));
+    println!("  calls {}", good(every::areas(&Wire, &Calls)));
     let pool = good(every::pool(Model::new(), Binding::new()));
     pool.print("the full pool");
     assert_eq!(pool.of("records brought out"), 96);
     assert_eq!(pool.of("resumed open"), 96);
 }
 
-/// The library does not give these calls to hosts yet: the model is compared with itself.
+/// Every ciphertext length, generation records at the limits, every short option before the judge.
+#[test]
+fn limits_in_full() {
+    let lengths = good(limits::lengths(&Wire, &Calls));
+    lengths.print("every ciphertext length");
+    lengths.demand(["success", "refusal 11"]);
+    let records = good(limits::records(&Wire, &Calls));
+    records.print("records at the limits");
+    records.demand_refusals(&[4, 13, 14, 15]);
+    println!("short options before the judge");
+    println!("  calls {}", good(limits::judged(&Wire, &Calls)));
+}
+
+/// Pairs of option areas.
+#[test]
+fn judgements() {
+    let counts = good(judge::compare(seed(), calls(), &Wire, &Calls));
+    counts.print("judgements");
+    counts.demand_refusals(&[2]);
+    counts.demand([
+        "reason 1",
+        "reason 2",
+        "reason 3",
+        "reason 4",
+        "reason 5",
+        "reason 6",
+        "fresh as A",
+        "fresh as B",
+        "resumed as A",
+        "resumed as B",
+        "fresh with v = 1",
+    ]);
+}
+
+/// Init messages, written and read back, and read at every prefix.
 #[test]
 fn init_messages() {
-    let counts = good(init::compare(seed(), calls(), &Wire, &Wire));
+    let counts = good(init::compare(seed(), calls(), &Wire, &Calls));
     counts.print("Init messages");
     counts.demand_refusals(&[3, 5, 8, 9, 10]);
     counts.demand(["read back"]);
 }
 
-/// The library does not give these calls to hosts yet: the model is compared with itself.
+/// Frame headers, frame IDs, nonces and plaintexts.
 #[test]
-fn frames_and_generations() {
-    let frames = good(frames::compare(seed(), calls(), &Wire, &Wire));
-    frames.print("frames");
-    frames.demand_refusals(&[3, 5, 9, 11, 12]);
-    let generations = good(generations::compare(seed(), calls(), &Wire, &Wire));
-    generations.print("generations");
-    generations.demand_refusals(&[4, 13, 14, 15]);
+fn frames() {
+    let counts = good(frames::compare(seed(), calls(), &Wire, &Calls));
+    counts.print("frames");
+    counts.demand_refusals(&[3, 5, 9, 11, 12]);
+    counts.demand(["header read back", "plaintext read back"]);
+}
+
+/// Steps on generation records, those at the extremes included.
+#[test]
+fn generations() {
+    let counts = good(generations::compare(seed(), calls(), &Wire, &Calls));
+    counts.print("generations");
+    counts.demand_refusals(&[4, 13, 14, 15]);
 }

@@ -1,8 +1,12 @@
 //! The library behind the driver's traits, reached through the crate's safe calls alone.
 
+mod wire;
+
 use door_link::{self as link, Error, LinkUnit, Outcome, Phase, Way};
 
-use crate::driver::calls::{Finder, PhaseNow, Reply, Status, Unit};
+use crate::driver::calls::{PhaseNow, Reply, Unit};
+
+pub use wire::Calls;
 
 /// The number that stands for a reply that could not be read; the model never gives it.
 const UNEXPECTED: u8 = 255;
@@ -139,22 +143,5 @@ impl Unit for Binding {
 
     fn erase(&mut self) -> Reply {
         done(self.0.erase())
-    }
-}
-
-/// The finder's word; the part itself is not given to hosts.
-pub struct Word;
-
-impl Finder for Word {
-    fn find_status(&self, area: &[u8], syn: bool) -> Status {
-        match link::find_status(area, syn) {
-            Ok(link::Status::Found) => Status::Found,
-            Ok(link::Status::Nothing) => Status::Nothing,
-            Ok(link::Status::Unreadable) => Status::Unreadable,
-            Err(error) => {
-                assert_eq!(number(error), 2, "{error}: {area:02x?}");
-                Status::Refused
-            }
-        }
     }
 }

@@ -222,3 +222,26 @@ pub trait Rekeying {
     fn receive_frame(&self, record: &mut Generations, rekey: bool) -> Answer<u16>;
     fn owed(&self, record: &Generations) -> bool;
 }
+
+/// What two option areas come to.
+#[derive(Clone, PartialEq, Eq, Debug)]
+pub enum Judged {
+    Plain(u8),
+    Encrypted {
+        role: u8,
+        tep: u8,
+        resumed: bool,
+        transcript: Vec<u8>,
+    },
+}
+
+/// The judge, for the end that sent `own`.
+pub trait Judging {
+    fn judge(
+        &self,
+        own: &[u8],
+        peer: &[u8],
+        mandatory: bool,
+        in_hand: Option<&Record>,
+    ) -> Answer<Judged>;
+}

@@ -101,7 +101,7 @@ impl<R: Unit, T: Unit> Pair<R, T> {
 }
 
 /// Every string of at most two bytes.
-fn strings() -> impl Iterator<Item = Vec<u8>> {
+pub fn strings() -> impl Iterator<Item = Vec<u8>> {
     let byte = || 0..=255u8;
     let one = byte().map(|first| vec![first]);
     let two = byte().flat_map(move |first| byte().map(move |second| vec![first, second]));

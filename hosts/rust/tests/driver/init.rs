@@ -105,6 +105,11 @@ fn ask(random: &mut Random) -> Ask {
         if let Some(last) = ciphers.last_mut() {
             *last = random.pick(&[1, 2, 0x10]);
         }
+    } else if random.chance(40) {
+        // Several are common, in any order.
+        for one in &mut ciphers {
+            *one = random.pick(&[1, 2, 0x10]);
+        }
     }
     if !own.is_empty() && kind == Kind::Second && random.chance(50) {
         own[0] = ciphers[0];

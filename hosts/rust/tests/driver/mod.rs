@@ -9,6 +9,8 @@ pub mod frames;
 pub mod generations;
 pub mod init;
 pub mod isolation;
+pub mod judge;
+pub mod limits;
 pub mod links;
 pub mod list;
 pub mod options;

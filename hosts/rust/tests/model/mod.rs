@@ -121,6 +121,27 @@ impl Rekeying for Wire {
     }
 }
 
+impl Judging for Wire {
+    fn judge(
+        &self,
+        own: &[u8],
+        peer: &[u8],
+        mandatory: bool,
+        in_hand: Option<&Record>,
+    ) -> Answer<Judged> {
+        match judge::judge(mandatory, in_hand, own, peer) {
+            judge::Judgement::Refused(number) => Err(number),
+            judge::Judgement::Plain(reason) => Ok(Judged::Plain(reason)),
+            judge::Judgement::Encrypted(verdict) => Ok(Judged::Encrypted {
+                role: verdict.role,
+                tep: verdict.tep,
+                resumed: verdict.resumed,
+                transcript: verdict.transcript,
+            }),
+        }
+    }
+}
+
 /// Bytes written as in the papers' tables.
 pub fn hex(text: &str) -> Vec<u8> {
     let byte = |pair| u8::from_str_radix(pair, 16).expect("two hex digits");

@@ -1,5 +1,7 @@
 //! Units that are wrong in one thing each: the driver must see it.
 
+mod wire;
+
 use crate::driver::calls::{DoorRecords, PhaseNow, Reply, Unit};
 use crate::driver::isolation::isolation;
 use crate::driver::links::Links;

@@ -1,15 +1,8 @@
-//! The library's exports as hosts/c/door_link.h has them, each behind a safe function. All `unsafe` of the crate is here.
-//!
-//! What the header asks of a caller: no null pointer (a slice has none, an empty one included), all bytes of a length readable and those of a
-//! lent buffer writable (a slice's are), no lent buffer that overlaps an input (a `&mut` slice overlaps no other), a unit that the library made
-//! (`Unit` has no other maker than `new` and the calls), and a `bool` that is 0 or 1 (Rust's is).
+//! The unit's calls.
 
 use core::mem::{align_of, offset_of, size_of};
-use core::ptr;
-use core::sync::atomic::{compiler_fence, Ordering};
 
-#[cfg(not(all(target_arch = "x86_64", unix)))]
-compile_error!("the library is built for x86-64 with the System V calling convention");
+use super::{overwrite, Reply};
 
 const UNIT: usize = 8592;
 const SECRET: usize = 32;
@@ -19,17 +12,6 @@ const SECRET: usize = 32;
 #[repr(C)]
 pub(crate) struct Unit {
     bytes: [u8; UNIT],
-}
-
-/// A reply in plain numbers.
-#[derive(Clone, Copy)]
-#[repr(C)]
-pub(crate) struct Reply {
-    pub number: usize,
-    pub kind: u8,
-    pub role: u8,
-    pub tep: u8,
-    pub resumed: u8,
 }
 
 /// What a call gives back.
@@ -49,12 +31,7 @@ pub(crate) struct ResultStep {
 
 // The layout that hosts/c/layout.c finds in the library.
 const _: () = {
-    assert!(size_of::<usize>() == 8 && size_of::<bool>() == 1);
     assert!(size_of::<Unit>() == UNIT && align_of::<Unit>() == 1);
-    assert!(size_of::<Reply>() == 16 && align_of::<Reply>() == 8);
-    assert!(offset_of!(Reply, number) == 0 && offset_of!(Reply, kind) == 8);
-    assert!(offset_of!(Reply, role) == 9 && offset_of!(Reply, tep) == 10);
-    assert!(offset_of!(Reply, resumed) == 11);
     assert!(size_of::<Step>() == 8608 && align_of::<Step>() == 8);
     assert!(offset_of!(Step, unit) == 0 && offset_of!(Step, reply) == 8592);
     assert!(size_of::<ResultStep>() == 8640 && align_of::<ResultStep>() == 8);
@@ -122,7 +99,6 @@ extern "C" {
     ) -> Step;
     fn door_link_count(unit: Unit, door: usize) -> Step;
     fn door_link_erase(unit: Unit) -> Step;
-    fn door_link_find_status(area: *const u8, area_length: usize, syn: bool) -> Reply;
 }
 
 pub(crate) fn new() -> Unit {
@@ -228,20 +204,6 @@ pub(crate) fn count(unit: &Unit, door: usize) -> Step {
 pub(crate) fn erase(unit: &Unit) -> Step {
     // SAFETY: the unit is the library's.
     unsafe { door_link_erase(*unit) }
-}
-
-pub(crate) fn find_status(area: &[u8], syn: bool) -> Reply {
-    // SAFETY: pointer and length are those of a slice.
-    unsafe { door_link_find_status(area.as_ptr(), area.len(), syn) }
-}
-
-/// Writes zeros that the compiler does not leave out.
-pub(crate) fn overwrite(bytes: &mut [u8]) {
-    for byte in bytes {
-        // SAFETY: a reference may be written through.
-        unsafe { ptr::write_volatile(byte, 0) };
-    }
-    compiler_fence(Ordering::SeqCst);
 }
 
 impl Unit {

@@ -1,0 +1,126 @@
+//! The exports behind the driver's trait, with the unit behind a pointer as hosts/c/door_link.h has it: what a call gives back is copied to where
+//! the unit is, except after *resend*, *result* and *count*.
+
+use door_link::{Answer, Offer};
+
+use crate::driver::calls::{PhaseNow, Reply, Unit};
+use crate::ffi;
+
+pub struct Export(ffi::Unit);
+
+fn told(reply: &ffi::Reply) -> Reply {
+    let number = reply.number;
+    match reply.kind {
+        0 => Reply::Refused(number as u8),
+        1 => Reply::Written(number),
+        2 => Reply::Plain(number as u8),
+        3 => Reply::Now(match number {
+            0 => PhaseNow::Idle,
+            1 => PhaseNow::Offered,
+            2 => PhaseNow::Crossed,
+            3 => PhaseNow::Answered,
+            _ => PhaseNow::Open,
+        }),
+        4 => Reply::Open {
+            role: reply.role,
+            tep: reply.tep,
+            resumed: reply.resumed == 1,
+            transcript: number,
+        },
+        6 => Reply::Count(number),
+        _ => Reply::Done,
+    }
+}
+
+impl Export {
+    pub fn new() -> Export {
+        Export(ffi::new())
+    }
+
+    fn take(&mut self, step: &ffi::Step) -> Reply {
+        self.0 = step.unit;
+        told(&step.reply)
+    }
+}
+
+impl Unit for Export {
+    fn offer(
+        &mut self,
+        door: usize,
+        b: u8,
+        aware: bool,
+        mandatory: bool,
+        teps: &[u8],
+        resume: bool,
+        nonce: &[u8],
+        out: &mut [u8],
+    ) -> Reply {
+        let ask = Offer {
+            b,
+            aware,
+            mandatory,
+            teps,
+            resume,
+            nonce,
+        };
+        self.take(&ffi::offer(&self.0, door, &ask, out))
+    }
+
+    fn answer(
+        &mut self,
+        door: usize,
+        area: &[u8],
+        aware: bool,
+        mandatory: bool,
+        teps: &[u8],
+        nonce: &[u8],
+        out: &mut [u8],
+    ) -> Reply {
+        let ask = Answer {
+            area,
+            aware,
+            mandatory,
+            teps,
+            nonce,
+        };
+        self.take(&ffi::answer(&self.0, door, &ask, out))
+    }
+
+    fn receive(&mut self, door: usize, syn: bool, ack: bool, area: &[u8]) -> Reply {
+        let step = ffi::receive(&self.0, door, syn, ack, area);
+        let reply = self.take(&step);
+        match reply {
+            Reply::Plain(reason) => Reply::Now(PhaseNow::Plain(reason)),
+            _ => reply,
+        }
+    }
+
+    fn resend(&mut self, door: usize, out: &mut [u8]) -> Reply {
+        told(&ffi::resend(&self.0, door, out).reply)
+    }
+
+    fn result(&mut self, door: usize, out: &mut [u8]) -> (Reply, [u8; 32]) {
+        let step = ffi::result(&self.0, door, out);
+        (told(&step.reply), step.secret)
+    }
+
+    fn close(&mut self, door: usize) -> Reply {
+        self.take(&ffi::close(&self.0, door))
+    }
+
+    fn store(&mut self, door: usize, tep: u8, role: u8, identifier: &[u8], secret: &[u8]) -> Reply {
+        self.take(&ffi::store(&self.0, door, tep, role, identifier, secret))
+    }
+
+    fn forget(&mut self, door: usize, tep: u8, identifier: &[u8]) -> Reply {
+        self.take(&ffi::forget(&self.0, door, tep, identifier))
+    }
+
+    fn count(&mut self, door: usize) -> Reply {
+        told(&ffi::count(&self.0, door).reply)
+    }
+
+    fn erase(&mut self) -> Reply {
+        self.take(&ffi::erase(&self.0))
+    }
+}

@@ -1,0 +1,169 @@
+//! What two option areas come to, for captures and diagnosis. A door's calls judge by the same rules inside.
+
+use core::fmt;
+
+use crate::reply::Told;
+use crate::{ffi, Error, Reason, Role, IDENTIFIER, TRANSCRIPT};
+
+/// The session record that an end has in hand when it judges. The secret plays no part, so it is not asked for.
+#[derive(Clone, Copy, PartialEq, Eq, Debug)]
+pub struct InHand {
+    /// The TEP, without v.
+    pub tep: u8,
+    /// The end's role in the connection that made the session, [`Role::number`]; any other number than 0 reads as host B.
+    pub role: u8,
+    /// Host A sends the first nine bytes, host B the last nine.
+    pub identifier: [u8; IDENTIFIER],
+}
+
+/// Host A's ENO option, then host B's.
+#[derive(Clone, Copy, PartialEq, Eq)]
+pub struct Transcript {
+    bytes: [u8; TRANSCRIPT],
+    length: usize,
+}
+
+impl Transcript {
+    /// The transcript's bytes.
+    #[inline]
+    pub fn bytes(&self) -> &[u8] {
+        self.bytes.get(..self.length).unwrap_or(&self.bytes)
+    }
+}
+
+impl fmt::Debug for Transcript {
+    fn fmt(&self, f: &mut fmt::Formatter<'_>) -> fmt::Result {
+        write!(f, "Transcript({:02x?})", self.bytes())
+    }
+}
+
+/// What two option areas come to.
+#[derive(Clone, Copy, PartialEq, Eq, Debug)]
+pub enum Judgement {
+    /// Encryption is agreed.
+    Encrypted {
+        /// The role of the end that judges.
+        role: Role,
+        /// The TEP byte as host B sent it, with the bit v (0x80).
+        tep: u8,
+        /// Whether the session in hand is resumed.
+        resumed: bool,
+        /// Host A's option, then host B's.
+        transcript: Transcript,
+    },
+    /// The connection is plain TCP, for reason 1 to 6.
+    Plain(Reason),
+}
+
+/// Judges the option areas of two SYN segments (SYN+ACK included), each 0 to 40 bytes, for the end that sent `own`; `mandatory` says whether that end
+/// asks the other side to be aware.
+///
+/// Refused: 2.
+///
+/// ```
+/// use door_link::{judge, InHand, Judgement, Reason, Role};
+/// # fn main() -> Result<(), door_link::Error> {
+/// let fresh = judge(&[0x45, 4, 0x21, 0x23], &[1, 0x45, 4, 0x01, 0x23], false, None)?;
+/// let Judgement::Encrypted { role: Role::A, tep: 0x23, resumed: false, transcript } = fresh else {
+///     unreachable!("both sent Curve25519");
+/// };
+/// assert_eq!(transcript.bytes(), [0x45, 4, 0x21, 0x23, 0x45, 4, 0x01, 0x23]);
+///
+/// let same = judge(&[0x45, 3, 0x23], &[0x45, 3, 0x23], false, None)?;
+/// assert_eq!(same, Judgement::Plain(Reason::EqualRoles));
+///
+/// let hand = InHand { tep: 0x23, role: Role::A.number(), identifier: [7; 18] };
+/// let own = [0x45, 12, 0xa3, 7, 7, 7, 7, 7, 7, 7, 7, 7];
+/// let peer = [0x45, 13, 1, 0xa3, 7, 7, 7, 7, 7, 7, 7, 7, 7];
+/// let resumed = judge(&own, &peer, false, Some(&hand))?;
+/// assert!(matches!(resumed, Judgement::Encrypted { tep: 0xa3, resumed: true, .. }));
+/// # Ok(())
+/// # }
+/// ```
+#[inline]
+pub fn judge(
+    own: &[u8],
+    peer: &[u8],
+    mandatory: bool,
+    hand: Option<&InHand>,
+) -> Result<Judgement, Error> {
+    judgement(&ffi::judge::judge(own, peer, mandatory, hand))
+}
+
+/// Reads the judge's numbers, each one tested: bytes past the transcript are zeros, and all of them where there is none.
+#[inline]
+fn judgement(numbers: &ffi::judge::JudgementNumbers) -> Result<Judgement, Error> {
+    let told = Told::read(&numbers.reply, TRANSCRIPT);
+    let length = match &told {
+        Ok(Told::Encrypted { transcript, .. }) => *transcript,
+        _ => 0,
+    };
+    let rest = numbers.transcript.get(length..).unwrap_or(&[1]);
+    if rest.iter().fold(0, |all, byte| all | byte) != 0 {
+        return Err(Error::Unexpected);
+    }
+    match told? {
+        Told::Encrypted {
+            role, tep, resumed, ..
+        } => Ok(Judgement::Encrypted {
+            role,
+            tep,
+            resumed,
+            transcript: Transcript {
+                bytes: numbers.transcript,
+                length,
+            },
+        }),
+        Told::Plain(reason) if reason != Reason::Altered => Ok(Judgement::Plain(reason)),
+        _ => Err(Error::Unexpected),
+    }
+}
+
+#[cfg(test)]
+mod tests {
+    use super::*;
+    use crate::Refusal;
+    use std::format;
+
+    fn of(kind: u8, number: usize, tep: u8, byte: usize) -> Result<Judgement, Error> {
+        let mut transcript = [0; TRANSCRIPT];
+        if let Some(byte) = transcript.get_mut(byte) {
+            *byte = 1;
+        }
+        judgement(&ffi::judge::JudgementNumbers {
+            reply: ffi::Reply {
+                number,
+                kind,
+                role: 0,
+                tep,
+                resumed: 0,
+            },
+            transcript,
+        })
+    }
+
+    #[test]
+    fn numbers_that_the_header_has_not() {
+        let none = TRANSCRIPT;
+        assert!(of(4, 80, 0x23, 79).is_ok());
+        assert!(of(4, 7, 0x23, 6).is_ok());
+        let short = of(4, 2, 0x23, 1).map(|judged| format!("{judged:?}"));
+        assert!(short.is_ok_and(|text| text.contains("transcript: Transcript([00, 01])")));
+        assert_eq!(of(2, 6, 0, none), Ok(Judgement::Plain(Reason::NoTep)));
+        let refused = Err(Error::Refused(Refusal::AreaTooLong));
+        assert_eq!(of(0, 2, 0, none), refused);
+        for (kind, number, tep, byte) in [
+            (4, 81, 0x23, none),
+            (4, 7, 0x23, 7),
+            (2, 6, 0, 0),
+            (2, 7, 0, none),
+            (2, 8, 0, none),
+            (0, 2, 0, 79),
+            (5, 0, 0, none),
+            (1, 8, 0, none),
+            (11, 8, 0, none),
+        ] {
+            assert_eq!(of(kind, number, tep, byte), Err(Error::Unexpected));
+        }
+    }
+}
