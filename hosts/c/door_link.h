@@ -1,7 +1,7 @@
 /* The link unit for hosts in C: TCP-ENO options (RFC 8547), resumption of tcpcrypt sessions (RFC 8548), 24 doors, one pool of 96 session records. What comes
  * after the handshake, Init messages, frames and generations, is in door_link_messages.h, which this header includes.
  *
- * Link with libhost.a, which `rt staticlib host` writes to target/staticlib (x86-64, System V calling convention).
+ * Link with libdoor_link.a, which `tools/host-library` writes to target/staticlib (x86-64, System V calling convention).
  *
  * THE UNIT is plain data that the host owns. There is no heap, no global, no lock and no thread in the library: it keeps nothing between two calls, and
  * a unit may be copied, moved and kept anywhere. Each call takes a unit by value and gives the unit afterwards back; what was passed in is not changed.

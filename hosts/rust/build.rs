@@ -1,4 +1,4 @@
-//! Links the library of crate host, which `rt staticlib host` writes: from the directory `DOOR_LINK_LIB`, or from the repository's target/staticlib.
+//! Links the library for hosts, which `tools/host-library` writes: from the directory `DOOR_LINK_LIB`, or from the repository's target/staticlib.
 
 use std::env;
 use std::path::PathBuf;
@@ -15,7 +15,7 @@ fn main() -> ExitCode {
         (None, Some(here)) => PathBuf::from(here).join("../../target/staticlib"),
         (None, None) => PathBuf::from("../../target/staticlib"),
     };
-    let library = directory.join("libhost.a");
+    let library = directory.join("libdoor_link.a");
     println!("cargo:rerun-if-changed={}", library.display());
     let Ok(directory) = directory.canonicalize() else {
         return missing(&library);
@@ -24,13 +24,13 @@ fn main() -> ExitCode {
         return missing(&library);
     }
     println!("cargo:rustc-link-search=native={}", directory.display());
-    println!("cargo:rustc-link-lib=static=host");
+    println!("cargo:rustc-link-lib=static=door_link");
     ExitCode::SUCCESS
 }
 
 fn missing(library: &std::path::Path) -> ExitCode {
     eprintln!(
-        "{} is not there: build it with `rt staticlib host`, or set DOOR_LINK_LIB to its directory",
+        "{} is not there: build it with `tools/host-library`, or set DOOR_LINK_LIB to its directory",
         library.display()
     );
     ExitCode::FAILURE
