@@ -56,7 +56,7 @@ pub fn offer(
         };
     }
     let active = pool::view_of(unit, door);
-    let told = opening::offer(active, b, aware, mandatory, teps, resume, nonce, out);
+    let told = offering::offer(active, b, aware, mandatory, teps, resume, nonce, out);
     let zeros = door::no_session();
     let change = told.change;
     let after = pool::enacted(unit, door, told.door, change, zeros);
@@ -84,7 +84,7 @@ pub fn answer(
         };
     }
     let passive = pool::view_of(unit, door);
-    let told = opening::answer(passive, area, aware, mandatory, teps, nonce, out);
+    let told = answering::answer(passive, area, aware, mandatory, teps, nonce, out);
     let zeros = door::no_session();
     let change = told.change;
     let after = pool::enacted(unit, door, told.door, change, zeros);
@@ -120,7 +120,7 @@ pub fn resend(unit: LinkUnit, door: usize, out: &mut [u8]) -> Replied
         };
     }
     let sender = unit.doors[door];
-    let reply = segments::resend(sender.door, out);
+    let reply = connection::resend(sender.door, out);
     Replied { unit, reply }
 }
 
@@ -136,7 +136,7 @@ pub fn result(unit: LinkUnit, door: usize, out: &mut [u8]) -> Resulted
         };
     }
     let position = unit.doors[door];
-    let told = segments::result(position.door, out);
+    let told = connection::result(position.door, out);
     let reply = told.reply;
     let secret = told.secret;
     Resulted {
@@ -156,7 +156,7 @@ pub fn close(unit: LinkUnit, door: usize) -> Replied
             reply: Reply::Refused(Refusal::NoDoor),
         };
     }
-    let closed = segments::close();
+    let closed = connection::close();
     let after = pool::with_door(unit, door, closed.door);
     let reply = closed.reply;
     Replied { unit: after, reply }

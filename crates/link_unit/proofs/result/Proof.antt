@@ -15,7 +15,7 @@ use Rattle.link_unit.proofs.result.Statement.{statement}
 use Rattle.link_unit.proofs.result.Tie as tie
 use Rattle.link_unit.proofs.result.Reads as reads
 use Rattle.link_unit.proofs.result.Lts as lts
-use Rattle.segments.proofs.result.Reads as result-reads
+use Rattle.connection.proofs.result.Reads as result-reads
 
 returns : tie.Need-returns
 unfolding doorsN lentOf
