@@ -1,12 +1,10 @@
 -- Laws of the record that is taken in hand.
 use Prim.Native.Nat.{ℕ, _≤_, _<_}
-use mathlib.Core.Path.{_≡_, refl, sym, _∙_}
+use mathlib.Core.Path.{_≡_, sym, _∙_}
 use mathlib.Core.Bool.{true}
-use mathlib.Core.Option.{Option, none, some}
 use native.Mathlib.Omega.{arith}
 use borrow.Author.Tests.{lt-ltb, le-ltb}
 use lib.ListN.{length, getD}
-use Rattle.eno.specs.Session.{inHand}
 use Rattle.eno.specs.declared.SessionRecord.{SessionRecord}
 use Rattle.eno.specs.declared.InHand.{InHand}
 use Rattle.door.specs.Door.{seenOf, handOf, emptyHand, Counts}
@@ -29,9 +27,3 @@ module _ (v : View) (n : ℕ) (counted : Counts v n) where
       let s = counted .seen in
       let k : length (seenOf v .held) ≤ j = omega arith in
       simp (le-ltb _ _ k)
-
--- what is in hand is the record that was taken
-pub in-hand : (x : Option SessionRecord) → inHand (handOf x) ≡ x
-unfolding inHand handOf emptyHand
-in-hand none = refl
-in-hand (some r) = refl

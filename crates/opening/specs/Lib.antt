@@ -1,3 +1,3 @@
--- How the code of offer and answer comes to its answers.
+-- What the steps that offer and answer share tell, and laws for both.
 pub mod Steps
-pub mod Choosing
+pub mod Laws

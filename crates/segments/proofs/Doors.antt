@@ -1,17 +1,16 @@
 -- The doors that are built: opened, judged.
-use Prim.Native.Nat.{ℕ, zero, suc, _+_, _-_, _≤_}
+use Prim.Native.Nat.{ℕ, _≤_}
 use mathlib.Core.Path.{_≡_, refl, _∙_, ap}
-use mathlib.Core.List.{List, _++_}
+use mathlib.Core.List.{List}
 use mathlib.Core.Bool.{Bool, true, false}
-use native.Mathlib.Omega.{arith}
-use lib.ListN.{length, drop, replicate, length-replicate}
-use Rattle.wire.specs.Bytes.{pasted}
-use Rattle.wire.specs.ByteLaws.{pasted-fits}
+use lib.ListN.{length}
 use Rattle.eno.specs.declared.InHand.{InHand}
 use Rattle.eno.specs.Judge.{isResumed, wayIf}
 use Rattle.door.specs.Door.{kept}
 use Rattle.door.specs.Receive.{openHand, openDoor, judgedDoor}
 use Rattle.door.specs.declared.Door.{Door}
+use Rattle.door_data.specs.Kept.{keptOption}
+use Rattle.door_data.specs.Laws.{kept-whole}
 use Rattle.segments.specs.Steps.{openIf}
 
 -- a door's fields
@@ -45,26 +44,13 @@ module _ (d : Door) where
   unfolding openIf
   stays b e = rw e
 
--- an option, and zeros behind it
-drop-zeros : (n k : ℕ) → drop {A = ℕ} k (replicate n 0) ≡ replicate (n - k) 0
-drop-zeros n zero = ap (λ m. replicate m 0) (let e : n ≡ n - 0 = omega arith in e)
-drop-zeros zero (suc k) = ap (λ m. replicate m 0) (let e : 0 ≡ 0 - suc k = omega arith in e)
-drop-zeros (suc n) (suc k) = drop-zeros n k ∙ ap (λ m. replicate m 0) (let e : n - k ≡ suc n - suc k = omega arith in e)
-
-pub pasted-kept : (o : List ℕ) → length o ≤ 40 → pasted (replicate 40 0) 0 o ≡ kept o
-unfolding kept
-pasted-kept o h =
-    let l = length-replicate {A = ℕ} 40 0 in
-    let z : 0 + length o ≡ length o = omega arith in
-    pasted-fits (replicate 40 0) 0 o (omega arith) ∙ (ap (λ k. o ++ drop k (replicate 40 0)) z ∙ ap (λ r. o ++ r) (drop-zeros 40 (length o)))
-
 resumed-if : (b : Bool) → b ≡ isResumed (wayIf b)
 resumed-if true = refl
 resumed-if false = refl
 
-pub judged-with : (d : Door) (o : List ℕ) (role byte : ℕ) (again : Bool) (p : List ℕ) → length o ≤ 40 → p ≡ pasted (replicate 40 0) 0 o
+pub judged-with : (d : Door) (o : List ℕ) (role byte : ℕ) (again : Bool) (p : List ℕ) → length o ≤ 40 → p ≡ keptOption o
     → doorOf 2 (d .mandatory) 0 role byte again (d .«own_length») (length o) (d .own) p (d .hand) ≡ judgedDoor d o role byte (wayIf again)
 unfolding judgedDoor
 judged-with d o role byte again p h e =
-    ap (λ x. doorOf 2 (d .mandatory) 0 role byte again (d .«own_length») (length o) (d .own) x (d .hand)) (e ∙ pasted-kept o h)
+    ap (λ x. doorOf 2 (d .mandatory) 0 role byte again (d .«own_length») (length o) (d .own) x (d .hand)) (e ∙ kept-whole o h)
     ∙ ap (λ b. doorOf 2 (d .mandatory) 0 role byte b (d .«own_length») (length o) (d .own) (kept o) (d .hand)) (resumed-if again)

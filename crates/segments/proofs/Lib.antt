@@ -1,5 +1,4 @@
--- Laws that the proofs share.
-pub mod Turns
+-- Laws for the proofs of receive.
 pub mod Doors
 pub mod Reasons
 pub mod Outcomes

@@ -1,2 +1,2 @@
--- How the code says what it does with a segment.
+-- How the code opens a door.
 pub mod Steps

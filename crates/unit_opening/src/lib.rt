@@ -30,7 +30,7 @@ pub fn offer(
         };
     }
     let active = pool::view_of(unit, door);
-    let told = opening::offer(active, b, aware, mandatory, teps, resume, nonce, out);
+    let told = offering::offer(active, b, aware, mandatory, teps, resume, nonce, out);
     let zeros = door::no_session();
     let change = told.change;
     let after = pool::enacted(unit, door, told.door, change, zeros);
@@ -58,7 +58,7 @@ pub fn answer(
         };
     }
     let passive = pool::view_of(unit, door);
-    let told = opening::answer(passive, area, aware, mandatory, teps, nonce, out);
+    let told = answering::answer(passive, area, aware, mandatory, teps, nonce, out);
     let zeros = door::no_session();
     let change = told.change;
     let after = pool::enacted(unit, door, told.door, change, zeros);

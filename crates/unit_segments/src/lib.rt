@@ -40,7 +40,7 @@ pub fn resend(unit: LinkUnit, door: usize, out: &mut [u8]) -> Replied
         };
     }
     let sender = unit.doors[door];
-    let reply = segments::resend(sender.door, out);
+    let reply = connection::resend(sender.door, out);
     Replied { unit, reply }
 }
 
@@ -56,7 +56,7 @@ pub fn result(unit: LinkUnit, door: usize, out: &mut [u8]) -> Resulted
         };
     }
     let position = unit.doors[door];
-    let told = segments::result(position.door, out);
+    let told = connection::result(position.door, out);
     let reply = told.reply;
     let secret = told.secret;
     Resulted {
@@ -76,7 +76,7 @@ pub fn close(unit: LinkUnit, door: usize) -> Replied
             reply: Reply::Refused(Refusal::NoDoor),
         };
     }
-    let closed = segments::close();
+    let closed = connection::close();
     let after = pool::with_door(unit, door, closed.door);
     let reply = closed.reply;
     Replied { unit: after, reply }

@@ -5,17 +5,14 @@ use borrow.Author.Needs.{needs}
 use Rattle.segments.proofs.judged_door.Statement.{statement}
 use Rattle.segments.proofs.judged_door.Tie as tie
 
-slice-aggregate-copy : tie.Need-slice-aggregate-copy
-slice-aggregate-copy c = search needs
-
-copy-requires : tie.Need-copy-requires
-copy-requires c κs = search needs
+kept-option-requires : tie.Need-kept-option-requires
+kept-option-requires c κs = search needs
 
 cast-peer-length : tie.Need-cast-peer-length
 cast-peer-length c = search needs
 
 returns : tie.Need-returns
-returns c = judged-with _ _ _ _ _ _ (omega arith) (c .before .copy .ensures)
+returns c = judged-with _ _ _ _ _ _ (omega arith) (c .kept-option .ensures)
 
 pub judged-door-spec : {M : Type 1} → statement M
-judged-door-spec = tie.close (tie.spec slice-aggregate-copy copy-requires cast-peer-length returns)
+judged-door-spec = tie.close (tie.spec kept-option-requires cast-peer-length returns)

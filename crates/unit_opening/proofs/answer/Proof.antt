@@ -11,7 +11,7 @@ use Rattle.unit_opening.proofs.answer.Tie as tie
 use Rattle.unit_opening.proofs.answer.Reads as reads
 use Rattle.unit_opening.proofs.answer.Lts as lts
 use Rattle.door.proofs.no_session.Reads as no-session-reads
-use Rattle.opening.proofs.answer.Reads as answer-reads
+use Rattle.answering.proofs.answer.Reads as answer-reads
 use Rattle.pool.proofs.enacted.Reads as enacted-reads
 use Rattle.pool.proofs.view_of.Reads as view-of-reads
 

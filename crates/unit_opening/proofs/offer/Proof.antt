@@ -11,7 +11,7 @@ use Rattle.unit_opening.proofs.offer.Tie as tie
 use Rattle.unit_opening.proofs.offer.Reads as reads
 use Rattle.unit_opening.proofs.offer.Lts as lts
 use Rattle.door.proofs.no_session.Reads as no-session-reads
-use Rattle.opening.proofs.offer.Reads as offer-reads
+use Rattle.offering.proofs.offer.Reads as offer-reads
 use Rattle.pool.proofs.enacted.Reads as enacted-reads
 use Rattle.pool.proofs.view_of.Reads as view-of-reads
 

@@ -12,7 +12,7 @@ use Rattle.unit_segments.proofs.close.Tie as tie
 use Rattle.unit_segments.proofs.close.Reads as reads
 use Rattle.unit_segments.proofs.close.Lts as lts
 use Rattle.pool.proofs.with_door.Reads as with-door-reads
-use Rattle.segments.proofs.close.Reads as close-reads
+use Rattle.connection.proofs.close.Reads as close-reads
 
 returns : tie.Need-returns
 unfolding doorsN lentOf

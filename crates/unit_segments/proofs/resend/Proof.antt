@@ -12,7 +12,7 @@ use Rattle.unit_segments.proofs.resend.Statement.{statement}
 use Rattle.unit_segments.proofs.resend.Tie as tie
 use Rattle.unit_segments.proofs.resend.Reads as reads
 use Rattle.unit_segments.proofs.resend.Lts as lts
-use Rattle.segments.proofs.resend.Reads as resend-reads
+use Rattle.connection.proofs.resend.Reads as resend-reads
 
 returns : tie.Need-returns
 unfolding doorsN lentOf

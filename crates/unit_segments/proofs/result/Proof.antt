@@ -15,7 +15,7 @@ use Rattle.unit_segments.proofs.result.Statement.{statement}
 use Rattle.unit_segments.proofs.result.Tie as tie
 use Rattle.unit_segments.proofs.result.Reads as reads
 use Rattle.unit_segments.proofs.result.Lts as lts
-use Rattle.segments.proofs.result.Reads as result-reads
+use Rattle.connection.proofs.result.Reads as result-reads
 
 returns : tie.Need-returns
 unfolding doorsN lentOf

@@ -1,0 +1,48 @@
+-- `deciding::decide` meets its contract.
+use mathlib.Core.Path.{_≡_, refl, sym, _∙_, ap}
+use native.Mathlib.Omega.{arith}
+use Rattle.deciding.proofs.Tests.{decided-missed, decided-ill, decided-equal, decided-unaware, decided-chosen}
+use borrow.Author.Needs.{needs}
+use Rattle.deciding.proofs.decide.Statement.{statement}
+use Rattle.deciding.proofs.decide.Tie as tie
+
+missed-requires : tie.Need-missed-requires
+missed-requires c κs = search needs
+
+returns : tie.Need-returns
+returns c = decided-missed _ _ _ _ _ (omega arith) _ (c .missed .ensures)
+
+summarize-requires : tie.Need-summarize-requires
+summarize-requires c κs = search needs
+
+returns-2 : tie.Need-returns-2
+returns-2 c = decided-ill _ _ _ _ _ (λ e. omega arith) _ (c .before .summarize .ensures) (c .if2 .taken)
+
+returns-3 : tie.Need-returns-3
+returns-3 c = decided-equal _ _ _ _ _ (λ e. omega arith) _ (c .before .before .before .summarize .ensures) (c .before .before .if2 .left) (c .if3 .taken)
+
+is-unaware-requires : tie.Need-is-unaware-requires
+is-unaware-requires c κs = search needs
+
+returns-4 : tie.Need-returns-4
+returns-4 c = decided-unaware _ _ _ _ _ (λ e. omega arith) _ (c .before .before .before .before .before .summarize .ensures) (c .before .before .before .before .if2 .left) (c .before .before .if3 .left) _ (c .before .is-unaware .ensures) (c .if4 .taken)
+
+choose-requires : tie.Need-choose-requires
+choose-requires c κs = search needs
+
+returns-5 : tie.Need-returns-5
+returns-5 c = decided-chosen _ _ _ _ _ (λ e. omega arith) _ (c .before .before .before .before .before .before .before .summarize .ensures) (c .before .before .before .before .before .before .if2 .left) (c .before .before .before .before .if3 .left) _ (c .before .before .before .is-unaware .ensures) (c .before .before .if4 .left) _ (c .choose .ensures)
+
+pub decide-spec : {M : Type 1} → statement M
+decide-spec =
+    tie.close
+    (tie.spec
+    missed-requires
+    returns
+    summarize-requires
+    returns-2
+    returns-3
+    is-unaware-requires
+    returns-4
+    choose-requires
+    returns-5)

@@ -1,0 +1,3 @@
+-- Laws for the proofs.
+pub mod Phases
+pub mod Pasted

@@ -1,0 +1,2 @@
+-- How the code of offer comes to its answer.
+pub mod Steps

@@ -1,0 +1,4 @@
+-- Laws for the proofs of the choice.
+pub mod Entries
+pub mod Lasting
+pub mod First

@@ -1,0 +1,4 @@
+-- Laws of the choice.
+pub mod Listing
+pub mod Entry
+pub mod Choice

@@ -1,0 +1,134 @@
+// The TEP that an answer chooses of a list in rising priority, and the record that is resumed with it. Total for every view and every argument.
+use door::View;
+use eno::SessionRecord;
+use suboptions::Entry;
+ghost use mathlib.Core.Path.{_≡_};
+ghost use Rattle.door.specs.Door.{seenOf};
+ghost use Rattle.door.specs.Record.{firstThat};
+ghost use Rattle.tep_choice.specs.Choosing.{decisionOf, entryOf, candidateBy, expects, fittingBy, lastResumed, lastFresh, chosenBy};
+
+// What an answer comes to: plain with its reason, or the TEP that is answered and which record is resumed.
+pub enum Decision {
+    Plain(u8),
+    With { tep: u8, at: usize },
+}
+
+// The entry of a TEP; never sent where the unit does not know it.
+fn entry_of(entries: [Entry; 4], t: u8) -> Entry
+    ensures { λ r. ⌜ r ≡ entryOf entries t ⌝ }
+{
+    let never = Entry {
+        times: 0,
+        byte: 0,
+        start: 0,
+        len: 0,
+    };
+    if t < 0x21 {
+        return never;
+    }
+    if 0x24 < t {
+        return never;
+    }
+    let k = (t - 0x21) as usize;
+    entries[k]
+}
+
+// Whether A sent a TEP once and not bad.
+fn is_candidate(e: Entry) -> bool
+    ensures { λ r. ⌜ r ≡ candidateBy e ⌝ }
+{
+    if e.times != 1 {
+        return false;
+    }
+    !suboptions::is_bad(e)
+}
+
+// Whether a record is of the TEP t and expects the half that stands in an option at `at`.
+fn is_expecting(session: SessionRecord, t: u8, option: &[u8], at: usize) -> bool
+    ensures { λ r. ⌜ r ≡ expects (now (option .entry)) t at session ⌝ }
+{
+    if session.tep != t {
+        return false;
+    }
+    let identifier = session.identifier;
+    if session.role == 0 {
+        return wire::stands_at(option, at, &identifier[9..18]);
+    }
+    wire::stands_at(option, at, &identifier[0..9])
+}
+
+// The oldest record that expects that half; the number of records where none does.
+fn first_expecting(view: View, t: u8, option: &[u8], at: usize) -> usize
+    ensures { λ r. ⌜ r ≡ firstThat (expects (now (option .entry)) t at) (seenOf view .held) ⌝ }
+{
+    let n = door::held_count(view);
+    let mut i = 0;
+    while i < n {
+        let session = view.held[i];
+        if is_expecting(session, t, option, at) {
+            return i;
+        }
+        i += 1;
+    }
+    n
+}
+
+// The oldest record that can be resumed with the TEP t, by what A sent of it; the number of records where there is none.
+fn fitting(view: View, option: &[u8], e: Entry, t: u8) -> usize
+    ensures { λ r. ⌜ r ≡ fittingBy (now (option .entry)) t e (seenOf view .held) ⌝ }
+{
+    let n = door::held_count(view);
+    if !is_candidate(e) {
+        return n;
+    }
+    if suboptions::is_fresh(e) {
+        return n;
+    }
+    first_expecting(view, t, option, e.start)
+}
+
+// The last listed TEP that can be resumed.
+fn last_resumed(view: View, option: &[u8], entries: [Entry; 4], teps: &[u8]) -> Decision
+    ensures { λ r. ⌜ decisionOf r ≡ lastResumed (now (option .entry)) entries (now (teps .entry)) (seenOf view .held) ⌝ }
+{
+    let n = door::held_count(view);
+    let mut i = teps.len();
+    while 0 < i {
+        i -= 1;
+        let tep = teps[i];
+        let e = entry_of(entries, tep);
+        let at = fitting(view, option, e, tep);
+        if at < n {
+            return Decision::With { tep, at };
+        }
+    }
+    Decision::Plain(6)
+}
+
+// The last listed TEP that A sent once and not bad, answered fresh.
+fn last_fresh(view: View, entries: [Entry; 4], teps: &[u8]) -> Decision
+    ensures { λ r. ⌜ decisionOf r ≡ lastFresh entries (now (teps .entry)) (seenOf view .held) ⌝ }
+{
+    let n = door::held_count(view);
+    let mut i = teps.len();
+    while 0 < i {
+        i -= 1;
+        let t = teps[i];
+        let e = entry_of(entries, t);
+        if is_candidate(e) {
+            return Decision::With { tep: t, at: n };
+        }
+    }
+    Decision::Plain(6)
+}
+
+// The TEP of an answer to an option, whose entries are given: the last listed that can be resumed, else the last that A sent once and not bad.
+pub fn choose(view: View, option: &[u8], entries: [Entry; 4], teps: &[u8]) -> Decision
+    ensures { λ r. ⌜ decisionOf r ≡ chosenBy (now (option .entry)) entries (now (teps .entry)) (seenOf view .held) ⌝ }
+{
+    let best = last_resumed(view, option, entries, teps);
+    match best {
+        Decision::With { tep, at } => Decision::With { tep, at },
+        Decision::Plain(_) => last_fresh(view, entries, teps),
+    }
+}

@@ -1,0 +1,2 @@
+-- How the code says what is done with a segment.
+pub mod Turns
