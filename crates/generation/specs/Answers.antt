@@ -1,7 +1,7 @@
 -- The answers of the steps in document 01's numbers and values; the views lose nothing.
-use Prim.Native.Nat.{ℕ}
-use mathlib.Core.Path.{_≡_, refl, ap}
-use native.Mathlib.Omega.{arith}
+use mathlib.Core.Path.{_≡_, refl, sym, _∙_, ap}
+use mathlib.Core.Bool.{cond}
+use lib.Dec.{eqb}
 use Rattle.generation.specs.Steps.{Reply, refused, sent, received, Outcome}
 use Rattle.generation.specs.declared.GenerationRecord.{GenerationRecord}
 use Rattle.generation.specs.declared.GenerationReply.{GenerationReply}
@@ -24,44 +24,22 @@ stepOf r = record { reply = replyOf (r .reply); next = r .next }
 abbrev pub lent : GenerationReply → GenerationRecord → Outcome
 lent r g = record { reply = replyOf r; next = g }
 
--- the view loses nothing
+-- the view loses nothing: a reply is read back from its number and values
+abbrev replyIn : Reply → GenerationReply
+replyIn (sent generation rekey) = a.Sent generation rekey
+replyIn (received generation) = a.Received generation
+replyIn (refused n) = cond (eqb n 4) a.Owed (cond (eqb n 13) a.PastLast (cond (eqb n 14) a.Finished a.Unanswered))
+
+reply-back : (x : GenerationReply) → replyIn (replyOf x) ≡ x
+reply-back (a.Sent generation rekey) = refl
+reply-back (a.Received generation) = refl
+reply-back a.Owed = refl
+reply-back a.PastLast = refl
+reply-back a.Finished = refl
+reply-back a.Unanswered = refl
+
 pub reply-tells : (x y : GenerationReply) → replyOf x ≡ replyOf y → x ≡ y
-reply-tells (a.Sent m b) (a.Sent n c) e = cc
-reply-tells (a.Sent m b) (a.Received n) e = let z : _≡_ {A = ℕ} 0 1 = cc in absurd (omega arith)
-reply-tells (a.Sent m b) a.Owed e = let z : _≡_ {A = ℕ} 0 1 = cc in absurd (omega arith)
-reply-tells (a.Sent m b) a.PastLast e = let z : _≡_ {A = ℕ} 0 1 = cc in absurd (omega arith)
-reply-tells (a.Sent m b) a.Finished e = let z : _≡_ {A = ℕ} 0 1 = cc in absurd (omega arith)
-reply-tells (a.Sent m b) a.Unanswered e = let z : _≡_ {A = ℕ} 0 1 = cc in absurd (omega arith)
-reply-tells (a.Received m) (a.Sent n c) e = let z : _≡_ {A = ℕ} 0 1 = cc in absurd (omega arith)
-reply-tells (a.Received m) (a.Received n) e = let same : m ≡ n = cc in ap a.Received same
-reply-tells (a.Received m) a.Owed e = let z : _≡_ {A = ℕ} 0 1 = cc in absurd (omega arith)
-reply-tells (a.Received m) a.PastLast e = let z : _≡_ {A = ℕ} 0 1 = cc in absurd (omega arith)
-reply-tells (a.Received m) a.Finished e = let z : _≡_ {A = ℕ} 0 1 = cc in absurd (omega arith)
-reply-tells (a.Received m) a.Unanswered e = let z : _≡_ {A = ℕ} 0 1 = cc in absurd (omega arith)
-reply-tells a.Owed (a.Sent n c) e = let z : _≡_ {A = ℕ} 0 1 = cc in absurd (omega arith)
-reply-tells a.Owed (a.Received n) e = let z : _≡_ {A = ℕ} 0 1 = cc in absurd (omega arith)
-reply-tells a.Owed a.Owed e = refl
-reply-tells a.Owed a.PastLast e = let z : _≡_ {A = ℕ} 4 13 = cc in absurd (omega arith)
-reply-tells a.Owed a.Finished e = let z : _≡_ {A = ℕ} 4 14 = cc in absurd (omega arith)
-reply-tells a.Owed a.Unanswered e = let z : _≡_ {A = ℕ} 4 15 = cc in absurd (omega arith)
-reply-tells a.PastLast (a.Sent n c) e = let z : _≡_ {A = ℕ} 0 1 = cc in absurd (omega arith)
-reply-tells a.PastLast (a.Received n) e = let z : _≡_ {A = ℕ} 0 1 = cc in absurd (omega arith)
-reply-tells a.PastLast a.Owed e = let z : _≡_ {A = ℕ} 13 4 = cc in absurd (omega arith)
-reply-tells a.PastLast a.PastLast e = refl
-reply-tells a.PastLast a.Finished e = let z : _≡_ {A = ℕ} 13 14 = cc in absurd (omega arith)
-reply-tells a.PastLast a.Unanswered e = let z : _≡_ {A = ℕ} 13 15 = cc in absurd (omega arith)
-reply-tells a.Finished (a.Sent n c) e = let z : _≡_ {A = ℕ} 0 1 = cc in absurd (omega arith)
-reply-tells a.Finished (a.Received n) e = let z : _≡_ {A = ℕ} 0 1 = cc in absurd (omega arith)
-reply-tells a.Finished a.Owed e = let z : _≡_ {A = ℕ} 14 4 = cc in absurd (omega arith)
-reply-tells a.Finished a.PastLast e = let z : _≡_ {A = ℕ} 14 13 = cc in absurd (omega arith)
-reply-tells a.Finished a.Finished e = refl
-reply-tells a.Finished a.Unanswered e = let z : _≡_ {A = ℕ} 14 15 = cc in absurd (omega arith)
-reply-tells a.Unanswered (a.Sent n c) e = let z : _≡_ {A = ℕ} 0 1 = cc in absurd (omega arith)
-reply-tells a.Unanswered (a.Received n) e = let z : _≡_ {A = ℕ} 0 1 = cc in absurd (omega arith)
-reply-tells a.Unanswered a.Owed e = let z : _≡_ {A = ℕ} 15 4 = cc in absurd (omega arith)
-reply-tells a.Unanswered a.PastLast e = let z : _≡_ {A = ℕ} 15 13 = cc in absurd (omega arith)
-reply-tells a.Unanswered a.Finished e = let z : _≡_ {A = ℕ} 15 14 = cc in absurd (omega arith)
-reply-tells a.Unanswered a.Unanswered e = refl
+reply-tells x y e = sym (reply-back x) ∙ (ap replyIn e ∙ reply-back y)
 
 pub step-tells : (x y : GenerationStep) → stepOf x ≡ stepOf y → x ≡ y
 step-tells x y e =

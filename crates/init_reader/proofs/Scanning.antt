@@ -1,43 +1,17 @@
--- Laws of the readers' steps: the ciphers, nonce and key. Assumes nothing.
+-- Laws of the readers' fields: the first cipher that passes, nonce and key. Assumes nothing.
 use Prim.Native.Nat.{ℕ, suc, _+_, _*_, _-_, _≤_, _<_}
 use mathlib.Core.Path.{_≡_, refl, sym, _∙_, ap}
 use mathlib.Core.List.{List, _++_, append-nil}
-use mathlib.Core.Bool.{Bool, true, false, cond, _||_}
+use mathlib.Core.Bool.{Bool, true, false, cond}
 use mathlib.Core.Option.{none, some}
 use native.Mathlib.Nat.{zero-add}
-use native.Mathlib.Numerals.{add-one}
 use native.Mathlib.Omega.{arith}
-use borrow.Author.Tests.{eq-eqb, ne-eqb}
-use lib.ListN.{length, getD, take, drop, replicate, drop-of-length-le, length-replicate, replicate-append-replicate}
-use lib.Seq.{drop-cons, drop-at}
+use lib.ListN.{length, take, drop, replicate, length-replicate, replicate-append-replicate}
+use lib.Seq.{drop-at}
 use Rattle.wire.specs.Bytes.{pasted, part, bytesFrom}
 use Rattle.wire.specs.ByteLaws.{pasted-fits, length-part, bytes-from-part}
 use Rattle.wire.specs.Number.{numberAt}
-use Rattle.eno.specs.Option.{isListed}
-use Rattle.init_layout.specs.Reading.{ciphersAt, firstThat, isEnabled, inInit1, zeros, padded}
-use Rattle.init_layout.specs.declared.Enabled.{Enabled}
-
--- a cipher that is enabled
-or-false : (b : Bool) → b ≡ b || false
-or-false true = refl
-or-false false = refl
-
-module _ (e : Enabled) (c : ℕ) where
-  pub enabled-1 : c ≡ 1 → e .aes128 ≡ isEnabled e c
-  unfolding isEnabled
-  enabled-1 h = rw h (or-false _ ∙ or-false _)
-
-  pub enabled-2 : c ≡ 2 → e .aes256 ≡ isEnabled e c
-  unfolding isEnabled
-  enabled-2 h = rw h (or-false _)
-
-  pub enabled-16 : c ≡ 16 → e .chacha20 ≡ isEnabled e c
-  unfolding isEnabled
-  enabled-16 h = rw h refl
-
-  pub enabled-none : (c ≡ 1 → ⊥) → (c ≡ 2 → ⊥) → (c ≡ 16 → ⊥) → false ≡ isEnabled e c
-  unfolding isEnabled
-  enabled-none x y z = simp (ne-eqb _ _ x, ne-eqb _ _ y, ne-eqb _ _ z)
+use Rattle.init_layout.specs.Reading.{ciphersAt, firstThat, zeros, padded}
 
 -- the first cipher that passes a test, i passed
 module _ (test : ℕ → Bool) (p : List ℕ) (at count : ℕ) where
@@ -84,24 +58,6 @@ module _ (test : ℕ → Bool) (p : List ℕ) (at count : ℕ) where
                 ∙ (ap (λ x. cond (test x) (some x) (firstThat test (ciphersAt (so-far .left - 1) p (next + 2)))) (sym is-cipher)
                 ∙ ap (λ b. cond b (some c) (firstThat test (ciphersAt (so-far .left - 1) p (next + 2)))) e));
           }
-
--- a cipher in a list, i passed
-module _ (l : List ℕ) (c i : ℕ) (so-far : inInit1 l c ≡ inInit1 (drop i l) c) where
-  pub listed-nowhere : length l ≤ i → false ≡ inInit1 l c
-  unfolding inInit1 isListed
-  listed-nowhere h = sym (so-far ∙ ap (λ m. isListed c m) (drop-of-length-le l {i = i} h))
-
-  module _ (in-list : i < length l) where
-    pub listed-here : getD l i 0 ≡ c → true ≡ inInit1 l c
-    unfolding inInit1 isListed
-    listed-here e = sym (so-far ∙ (ap (λ m. isListed c m) (drop-cons l i 0 in-list) ∙ ap (λ b. b || isListed c (drop (suc i) l)) (eq-eqb _ _ e)))
-
-    pub listed-later : (getD l i 0 ≡ c → ⊥) → inInit1 l c ≡ inInit1 (drop (i + 1) l) c
-    unfolding inInit1 isListed
-    listed-later e =
-        so-far
-        ∙ (ap (λ m. isListed c m) (drop-cons l i 0 in-list)
-        ∙ (ap (λ b. b || isListed c (drop (suc i) l)) (ne-eqb _ _ e) ∙ ap (λ k. isListed c (drop k l)) (sym (add-one i))))
 
 -- nonce and key, in arrays of zeros
 drop-zeros : (n k : ℕ) → k ≤ n → drop k (replicate {A = ℕ} n 0) ≡ zeros (n - k)

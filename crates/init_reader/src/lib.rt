@@ -3,13 +3,13 @@ use eno::Tep;
 use init_layout::Enabled;
 use init_layout::InitAnswer;
 use init_layout::InitRead;
-use init_progress::Progress;
+use init_steps::Progress;
 ghost use mathlib.Core.Path.{_≡_};
 ghost use Prim.Native.Nat.{_+_, _*_, _≤_};
 ghost use lib.ListN.{length};
 ghost use Rattle.wire.specs.Bytes.{bytesFrom};
 ghost use Rattle.eno.specs.Tep.{keyLength};
-ghost use Rattle.init_layout.specs.Reading.{ciphersAt, firstThat, isEnabled, inInit1, took, readingAs, zeros, padded, readInit1, readInit2};
+ghost use Rattle.init_layout.specs.Reading.{ciphersAt, firstThat, isEnabled, took, readingAs, zeros, padded, readInit1, readInit2};
 ghost use Rattle.init_layout.specs.Answers.{saysOf, readingOf};
 ghost use Rattle.init_reader.specs.Answers.{choiceOf};
 
@@ -27,22 +27,6 @@ fn keys_of(tep: u8) -> usize
     named.key_length
 }
 
-// Whether this end has a cipher enabled.
-fn is_enabled(enabled: Enabled, cipher: u16) -> bool
-    ensures { λ r. ⌜ r ≡ isEnabled enabled cipher ⌝ }
-{
-    if cipher == 0x0001 {
-        return enabled.aes128;
-    }
-    if cipher == 0x0002 {
-        return enabled.aes256;
-    }
-    if cipher == 0x0010 {
-        return enabled.chacha20;
-    }
-    false
-}
-
 // The first of the ciphers at a place that is enabled.
 fn first_enabled(enabled: Enabled, s: &[u8], at: usize, count: usize) -> Choice
     requires { ⌜ at + 2 * count ≤ length (now s) ⌝ }
@@ -52,27 +36,13 @@ fn first_enabled(enabled: Enabled, s: &[u8], at: usize, count: usize) -> Choice
     let mut next = at;
     while i < count {
         let cipher = wire::read_u16(s, next);
-        if is_enabled(enabled, cipher) {
+        if init_steps::is_enabled(enabled, cipher) {
             return Choice::Took(cipher);
         }
         i += 1;
         next += 2;
     }
     Choice::Nothing
-}
-
-// Whether a cipher is in a list.
-fn is_in(ciphers: &[u16], cipher: u16) -> bool
-    ensures { λ r. ⌜ r ≡ inInit1 (now (ciphers .entry)) cipher ⌝ }
-{
-    let mut i = 0;
-    while i < ciphers.len() {
-        if ciphers[i] == cipher {
-            return true;
-        }
-        i += 1;
-    }
-    false
 }
 
 // The nonce at a place.
@@ -131,9 +101,9 @@ pub fn init1_read(tep: u8, enabled: Enabled, bytes: &[u8]) -> InitRead
     if keys == 0 {
         return refused(InitAnswer::Unfit);
     }
-    let count = init_progress::count_of(bytes);
+    let count = init_steps::count_of(bytes);
     let at = 9 + 2 * count;
-    let progress = init_progress::settle(b"\x15\x10\x1a\x0e", at + 32 + keys, bytes);
+    let progress = init_steps::settle(b"\x15\x10\x1a\x0e", at + 32 + keys, bytes);
     match progress {
         Progress::Unreadable => refused(InitAnswer::Unreadable),
         Progress::Incomplete => refused(InitAnswer::Incomplete),
@@ -158,13 +128,13 @@ pub fn init2_read(tep: u8, own: &[u16], bytes: &[u8]) -> InitRead
     if size == 0 {
         return refused(InitAnswer::Unfit);
     }
-    let progress = init_progress::settle(b"\x09\x71\x05\xe0", 42 + size, bytes);
+    let progress = init_steps::settle(b"\x09\x71\x05\xe0", 42 + size, bytes);
     match progress {
         Progress::Unreadable => refused(InitAnswer::Unreadable),
         Progress::Incomplete => refused(InitAnswer::Incomplete),
         Progress::Whole(n) => {
             let cipher = wire::read_u16(bytes, 8);
-            if !is_in(own, cipher) {
+            if !init_steps::is_in(own, cipher) {
                 return refused(InitAnswer::NoCommonCipher);
             }
             taken(cipher, 1, n, bytes, 10, size)

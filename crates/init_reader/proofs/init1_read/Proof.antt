@@ -2,7 +2,7 @@
 use mathlib.Core.Path.{_∙_, ap}
 use native.Mathlib.Omega.{arith}
 use Rattle.init_layout.specs.Layout.{magicOf}
-use Rattle.init_progress.specs.Answers.{standingIn}
+use Rattle.init_steps.specs.Answers.{standingIn}
 use Rattle.init_reader.specs.Answers.{choiceOf}
 use Rattle.init_reader.proofs.Receiving.{read1-unfit, read1-unreadable, read1-incomplete, read1-room, read1-uncommon, read1-taken}
 use borrow.Author.Needs.{needs}

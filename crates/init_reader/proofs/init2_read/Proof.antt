@@ -3,7 +3,7 @@ use mathlib.Core.Path.{sym, _∙_, ap}
 use native.Mathlib.Omega.{arith}
 use borrow.Author.Tests.{not-true, not-false}
 use Rattle.init_layout.specs.Layout.{magicOf}
-use Rattle.init_progress.specs.Answers.{standingIn}
+use Rattle.init_steps.specs.Answers.{standingIn}
 use Rattle.init_reader.proofs.Receiving.{read2-many, read2-unfit, read2-unreadable, read2-incomplete, read2-room, read2-uncommon, read2-taken}
 use borrow.Author.Needs.{needs}
 use Rattle.init_reader.proofs.init2_read.Statement.{statement}

@@ -1,12 +1,12 @@
--- `init_reader::is_in` meets its contract. The loop's invariant: whether the cipher is listed is whether it is among those left.
+-- `init_steps::is_in` meets its contract. The loop's invariant: whether the cipher is listed is whether it is among those left.
 use Prim.Native.Nat.{_-_, _≤_}
 use mathlib.Core.Path.{_≡_, refl}
 use native.Mathlib.Omega.{arith}
 use lib.ListN.{length, drop}
 use Rattle.init_layout.specs.Reading.{inInit1}
-use Rattle.init_reader.proofs.Scanning.{listed-here, listed-later, listed-nowhere}
-use Rattle.init_reader.proofs.is_in.Statement.{statement}
-use Rattle.init_reader.proofs.is_in.Tie as tie
+use Rattle.init_steps.proofs.Ciphers.{listed-here, listed-later, listed-nowhere}
+use Rattle.init_steps.proofs.is_in.Statement.{statement}
+use Rattle.init_steps.proofs.is_in.Tie as tie
 
 abbrev Inv-loop : tie.InvT-loop
 Inv-loop ciphers cipher i₀ i = (i ≤ length ciphers) × (inInit1 ciphers cipher ≡ inInit1 (drop i ciphers) cipher)

@@ -1,8 +1,8 @@
--- `init_reader::is_enabled` meets its contract: each cipher has its switch.
+-- `init_steps::is_enabled` meets its contract: each cipher has its switch.
 use native.Mathlib.Omega.{arith}
-use Rattle.init_reader.proofs.Scanning.{enabled-1, enabled-2, enabled-16, enabled-none}
-use Rattle.init_reader.proofs.is_enabled.Statement.{statement}
-use Rattle.init_reader.proofs.is_enabled.Tie as tie
+use Rattle.init_steps.proofs.Ciphers.{enabled-1, enabled-2, enabled-16, enabled-none}
+use Rattle.init_steps.proofs.is_enabled.Statement.{statement}
+use Rattle.init_steps.proofs.is_enabled.Tie as tie
 
 returns : tie.Need-returns
 returns c = enabled-1 _ _ (omega arith)

@@ -1,10 +1,10 @@
--- `init_progress::begins` meets its contract: the shorter of magic and bytes is looked for at the start of the other.
+-- `init_steps::begins` meets its contract: the shorter of magic and bytes is looked for at the start of the other.
 use mathlib.Core.Path.{_∙_}
 use native.Mathlib.Omega.{arith}
-use Rattle.init_progress.proofs.Standing.{begins-short, begins-long}
+use Rattle.init_steps.proofs.Standing.{begins-short, begins-long}
 use borrow.Author.Needs.{needs}
-use Rattle.init_progress.proofs.begins.Statement.{statement}
-use Rattle.init_progress.proofs.begins.Tie as tie
+use Rattle.init_steps.proofs.begins.Statement.{statement}
+use Rattle.init_steps.proofs.begins.Tie as tie
 
 stands-at-requires : tie.Need-stands-at-requires
 stands-at-requires c κs = search needs

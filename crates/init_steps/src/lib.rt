@@ -1,9 +1,10 @@
-// How the bytes at hand of an Init message stand: readable, incomplete, or past all hope.
+// Steps of the Init readers: how the bytes at hand stand, how many ciphers they name, and whether a cipher may be taken.
+use init_layout::Enabled;
 ghost use mathlib.Core.Path.{_≡_};
 ghost use Prim.Native.Nat.{_<_};
 ghost use lib.ListN.{getD};
-ghost use Rattle.init_layout.specs.Reading.{agrees, standing};
-ghost use Rattle.init_progress.specs.Answers.{standingIn};
+ghost use Rattle.init_layout.specs.Reading.{agrees, standing, isEnabled, inInit1};
+ghost use Rattle.init_steps.specs.Answers.{standingIn};
 
 // How the bytes at hand stand.
 pub enum Progress {
@@ -62,4 +63,34 @@ pub fn settle(magic: &[u8], fields: usize, s: &[u8]) -> Progress
         return Progress::Incomplete;
     }
     Progress::Whole(n)
+}
+
+// Whether this end has a cipher enabled.
+pub fn is_enabled(enabled: Enabled, cipher: u16) -> bool
+    ensures { λ r. ⌜ r ≡ isEnabled enabled cipher ⌝ }
+{
+    if cipher == 0x0001 {
+        return enabled.aes128;
+    }
+    if cipher == 0x0002 {
+        return enabled.aes256;
+    }
+    if cipher == 0x0010 {
+        return enabled.chacha20;
+    }
+    false
+}
+
+// Whether a cipher is in a list.
+pub fn is_in(ciphers: &[u16], cipher: u16) -> bool
+    ensures { λ r. ⌜ r ≡ inInit1 (now (ciphers .entry)) cipher ⌝ }
+{
+    let mut i = 0;
+    while i < ciphers.len() {
+        if ciphers[i] == cipher {
+            return true;
+        }
+        i += 1;
+    }
+    false
 }

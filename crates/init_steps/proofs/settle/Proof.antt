@@ -1,11 +1,11 @@
--- `init_progress::settle` meets its contract: the fields are tested as they come.
+-- `init_steps::settle` meets its contract: the fields are tested as they come.
 use mathlib.Core.Path.{sym, _∙_}
 use native.Mathlib.Omega.{arith}
 use borrow.Author.Tests.{not-true, not-false}
-use Rattle.init_progress.proofs.Standing.{stands-other, stands-above, stands-short, stands-narrow, stands-part-only, stands-whole}
+use Rattle.init_steps.proofs.Standing.{stands-other, stands-above, stands-short, stands-narrow, stands-part-only, stands-whole}
 use borrow.Author.Needs.{needs}
-use Rattle.init_progress.proofs.settle.Statement.{statement}
-use Rattle.init_progress.proofs.settle.Tie as tie
+use Rattle.init_steps.proofs.settle.Statement.{statement}
+use Rattle.init_steps.proofs.settle.Tie as tie
 
 begins-requires : tie.Need-begins-requires
 begins-requires c κs = search needs

@@ -1,10 +1,10 @@
--- `init_progress::count_of` meets its contract: past the end the count reads as 0.
+-- `init_steps::count_of` meets its contract: past the end the count reads as 0.
 use mathlib.Core.Path.{sym}
 use native.Mathlib.Omega.{arith}
 use lib.ListN.{List·getD-eq-default}
 use borrow.Author.Needs.{needs}
-use Rattle.init_progress.proofs.count_of.Statement.{statement}
-use Rattle.init_progress.proofs.count_of.Tie as tie
+use Rattle.init_steps.proofs.count_of.Statement.{statement}
+use Rattle.init_steps.proofs.count_of.Tie as tie
 
 returns : tie.Need-returns
 returns c = (sym (List·getD-eq-default (c .before .before .args .s .now) 0 {n = 8} (omega arith)), omega arith)

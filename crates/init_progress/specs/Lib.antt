@@ -1,2 +1,0 @@
--- The view of what stands at hand.
-pub mod Answers

@@ -1,0 +1,2 @@
+-- The view of how the bytes at hand stand.
+pub mod Answers
