@@ -1,12 +1,12 @@
-// The bench table's rows that run, and the worked examples of the RFCs: each row's given and expected bytes stand in its source.
+// The bench table's rows that run, and the worked examples of the RFCs: each line of a table is a call, with what is given and, behind its arrow, what is expected.
 mod bench_table;
-mod calls;
-mod print;
+mod read;
 mod rfc8547;
-mod rows;
+mod run;
+mod say;
+mod unit_calls;
 
 fn main() {
     rfc8547::table();
     bench_table::table();
-    // The rows on Init messages and frames are still to come.
 }
