@@ -29,13 +29,13 @@ pub fn part(s: &[u8], a: usize, b: usize) -> &[u8] {
     &s[a..b]
 }
 
-// Where the line that begins at a place ends.
-pub fn line_end(s: &[u8], at: usize) -> usize
+// The first place, from a place on, where a byte stands; the end where it stands nowhere.
+pub fn until(s: &[u8], at: usize, c: u8) -> usize
     ensures { λ r. ⌜ at ≤ r ⌝ }
 {
     let mut i = at;
     while i < s.len() {
-        if s[i] == b'\n' {
+        if s[i] == c {
             return i;
         }
         i += 1;
@@ -43,36 +43,35 @@ pub fn line_end(s: &[u8], at: usize) -> usize
     i
 }
 
-// The first place where a word stands; the end where it stands nowhere.
-fn place(s: &[u8], word: &[u8]) -> usize
-    ensures { λ r. ⌜ r ≤ length (now (s .entry)) ⌝ }
-{
+// What is given: the line to its arrow.
+pub fn given(line: &[u8]) -> &[u8] {
+    first(line, until(line, 0, b'>'))
+}
+
+// The place of the last letter by which the first such word is named, behind its blank; the end where it does not stand.
+fn place(s: &[u8], word: u32) -> usize {
     let mut i = 0;
     while i < s.len() {
-        if wire::stands_at(s, i, word) {
-            return i;
+        if s[i] == b' ' {
+            if wire::read_u32(s, i + 1) == word {
+                if s.len() - i < 5 {
+                    return s.len();
+                }
+                return i + 4;
+            }
         }
         i += 1;
     }
     i
 }
 
-pub fn has(s: &[u8], word: &[u8]) -> bool {
+pub fn has(s: &[u8], word: u32) -> bool {
     place(s, word) < s.len()
 }
 
-// What stands before a word; all where it does not stand.
-pub fn before<'a>(s: &'a [u8], word: &[u8]) -> &'a [u8] {
-    first(s, place(s, word))
-}
-
-// What stands behind a word; nothing where it does not stand.
-pub fn behind<'a>(s: &'a [u8], word: &[u8]) -> &'a [u8] {
-    let at = place(s, word);
-    if s.len() - at < word.len() {
-        return &s[0..0];
-    }
-    part(s, at + word.len(), s.len())
+// What stands behind a word, from its blank on; nothing where the word does not stand.
+fn behind(s: &[u8], word: u32) -> &[u8] {
+    part(s, until(s, place(s, word), b' '), s.len())
 }
 
 // The value of a hex digit; 16 where it is none.
@@ -107,9 +106,9 @@ fn with_digit(n: u64, d: u8) -> u64 {
     tens + units
 }
 
-// The decimal number at the beginning.
+// The decimal number behind a blank at the beginning.
 fn decimal(s: &[u8]) -> u64 {
-    let mut i = 0;
+    let mut i = 1;
     let mut n: u64 = 0;
     while i < s.len() {
         let d = digit(s[i]);
@@ -123,30 +122,12 @@ fn decimal(s: &[u8]) -> u64 {
 }
 
 // The number behind a word; 0 where it does not stand.
-pub fn number(s: &[u8], word: &[u8]) -> u64 {
+pub fn number(s: &[u8], word: u32) -> u64 {
     decimal(behind(s, word))
 }
 
-// The number behind a word, 255 where it is more.
-pub fn small(s: &[u8], word: &[u8]) -> u8 {
-    let n = number(s, word);
-    if 255 < n {
-        return 255;
-    }
-    n as u8
-}
-
-// The number behind a word, 65,535 where it is more.
-pub fn short(s: &[u8], word: &[u8]) -> u16 {
-    let n = number(s, word);
-    if 65535 < n {
-        return 65535;
-    }
-    n as u16
-}
-
 // The number behind a word, or the most that may be.
-pub fn at_most(s: &[u8], word: &[u8], most: usize) -> usize
+pub fn at_most(s: &[u8], word: u32, most: usize) -> usize
     ensures { λ r. ⌜ r ≤ most ⌝ }
 {
     let n = number(s, word) as usize;
@@ -157,7 +138,7 @@ pub fn at_most(s: &[u8], word: &[u8], most: usize) -> usize
 }
 
 // Whether the number behind a word is not 0.
-pub fn flag(s: &[u8], word: &[u8]) -> bool {
+pub fn flag(s: &[u8], word: u32) -> bool {
     number(s, word) != 0
 }
 
@@ -243,9 +224,14 @@ pub fn bytes(s: &[u8], out: &mut [u8]) -> usize {
     n
 }
 
+// Reads the bytes behind a word.
+pub fn list(s: &[u8], word: u32, out: &mut [u8]) -> usize {
+    bytes(behind(s, word), out)
+}
+
 // The byte behind a word; 0 where there is none.
-pub fn byte(s: &[u8], word: &[u8]) -> u8 {
+pub fn byte(s: &[u8], word: u32) -> u8 {
     let mut one = [0u8; 1];
-    bytes(behind(s, word), &mut one);
+    list(s, word, &mut one);
     one[0]
 }

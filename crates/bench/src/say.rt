@@ -1,5 +1,6 @@
 // Words put into a buffer, and a line of a table held against what came.
 use crate::read;
+use crate::said;
 use libc::STDOUT_FILENO;
 
 // What fills a lent buffer before a call: what the call did not write must still be this.
@@ -24,30 +25,59 @@ pub fn put(out: &mut [u8], at: usize, words: &[u8]) -> usize {
     at + words.len()
 }
 
-pub fn number(out: &mut [u8], at: usize, words: &[u8], n: u64) -> usize {
-    let end = put(out, at, words);
-    let mut digits = [0u8; 20];
-    let k = io::decimal(n, &mut digits);
-    put(out, end, &digits[..k])
-}
-
-pub fn hex(out: &mut [u8], at: usize, words: &[u8], n: u64, width: usize) -> usize {
-    let end = put(out, at, words);
-    let mut digits = [0u8; 16];
-    let k = io::hex(n, width, &mut digits);
-    put(out, end, &digits[..k])
-}
-
-pub fn flag(out: &mut [u8], at: usize, words: &[u8], x: bool) -> usize {
-    if x {
-        return number(out, at, words, 1);
+// The place of a blank, by its number.
+fn blank(s: &[u8], k: usize) -> usize {
+    let mut at = 0;
+    let mut i = 0;
+    while i < k {
+        if s.len() <= at {
+            return at;
+        }
+        at = read::until(s, at + 1, b' ');
+        i += 1;
     }
-    number(out, at, words, 0)
+    at
+}
+
+// Puts a word by its number, behind a blank.
+pub fn word(out: &mut [u8], at: usize, k: usize) -> usize {
+    let all =
+        b" refused wrote plain holds done Idle Offered Crossed Answered Open Plain role TEP fresh resumed transcript cipher count length next rekey made fin urg urgent from sent received local remote last owed";
+    let from = blank(all, k);
+    let to = blank(read::part(all, from, all.len()), 1);
+    put(out, at, read::first(read::part(all, from, all.len()), to))
+}
+
+fn digits(out: &mut [u8], at: usize, n: u64) -> usize {
+    let mut text = [0u8; 20];
+    let k = io::decimal(n, &mut text);
+    put(out, at, &text[..k])
+}
+
+pub fn number(out: &mut [u8], at: usize, k: usize, n: u64) -> usize {
+    let end = word(out, at, k);
+    let end = put(out, end, b" ");
+    digits(out, end, n)
+}
+
+pub fn hex(out: &mut [u8], at: usize, k: usize, n: u64, width: usize) -> usize {
+    let end = word(out, at, k);
+    let end = put(out, end, b" ");
+    let mut text = [0u8; 16];
+    let long = io::hex(n, width, &mut text);
+    put(out, end, &text[..long])
+}
+
+pub fn flag(out: &mut [u8], at: usize, k: usize, x: bool) -> usize {
+    if x {
+        return number(out, at, k, 1);
+    }
+    number(out, at, k, 0)
 }
 
 // The scope document's number of a refusal.
 pub fn refused(out: &mut [u8], n: u64) -> usize {
-    number(out, 0, b" refused ", n)
+    number(out, 0, said::REFUSED, n)
 }
 
 fn wide(x: u8) -> u64 {
@@ -61,10 +91,11 @@ fn bytes(s: &[u8]) {
         io::print_hex(STDOUT_FILENO, wide(s[i]), 2);
         i += 1;
     }
+    text(b"\n");
 }
 
-// The line, and whether it is as expected; else what came.
-pub fn verdict(line: &[u8], right: bool, words: &[u8], lent: &[u8]) {
+// The line, and whether it is as expected; else the words that came.
+fn verdict(line: &[u8], right: bool, words: &[u8]) {
     text(line);
     if right {
         text(b" ok\n");
@@ -72,34 +103,48 @@ pub fn verdict(line: &[u8], right: bool, words: &[u8], lent: &[u8]) {
     }
     text(b" BUT CAME");
     text(words);
-    bytes(lent);
     text(b"\n");
+}
+
+// What a line expects: what stands behind its arrow.
+fn expected(line: &[u8]) -> &[u8] {
+    let at = read::until(line, 0, b'>');
+    if line.len() <= at {
+        return line;
+    }
+    read::part(line, at + 1, line.len())
 }
 
 // The bytes that a line expects, behind its colon.
 pub fn bytes_expected(line: &[u8], out: &mut [u8]) -> usize {
-    read::bytes(read::behind(read::behind(line, b" ->"), b":"), out)
+    let all = expected(line);
+    let at = read::until(all, 0, b':');
+    if all.len() <= at {
+        return 0;
+    }
+    read::bytes(read::part(all, at + 1, all.len()), out)
 }
 
-// Whether a line expects these words, behind its arrow.
-pub fn is_said(line: &[u8], words: &[u8]) -> bool {
-    wire::same(words, read::before(read::behind(line, b" ->"), b":"))
+// Whether a line expects these words, and what else was compared came out alike.
+pub fn compared(line: &[u8], words: &[u8], alike: bool) {
+    let all = expected(line);
+    let said = read::first(all, read::until(all, 0, b':'));
+    if wire::same(words, said) {
+        verdict(line, alike, words);
+        return;
+    }
+    verdict(line, false, words);
 }
 
-// Whether a lent buffer begins with the bytes that a line expects and is otherwise as it was lent.
-fn is_left(line: &[u8], lent: &[u8]) -> bool {
+// Holds a line against the words of an answer and a buffer: it begins with the bytes that the line expects, and all else is as it was filled.
+pub fn check(line: &[u8], words: &[u8], buffer: &[u8], fill: u8) {
     let mut written = [0u8; LENT];
     let n = bytes_expected(line, &mut written);
-    let mut left = [FILL; LENT];
+    let mut left = [fill; LENT];
     wire::copy(&mut left, 0, read::first(&written, n));
-    wire::same(lent, &left)
-}
-
-// Holds a line against the words of an answer and the buffer that was lent to the call.
-pub fn check(line: &[u8], words: &[u8], lent: &[u8]) {
-    let mut right = false;
-    if is_said(line, words) {
-        right = is_left(line, lent);
+    let alike = wire::same(buffer, &left);
+    compared(line, words, alike);
+    if !alike {
+        bytes(buffer);
     }
-    verdict(line, right, words, lent);
 }

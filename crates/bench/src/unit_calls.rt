@@ -1,6 +1,8 @@
 // Lines that are calls of the unit.
 use crate::read;
+use crate::said;
 use crate::say;
+use crate::word;
 use door::Phase;
 use door::Refusal;
 use door::Reply;
@@ -30,54 +32,48 @@ fn refusal_number(why: Refusal) -> u64 {
     }
 }
 
-fn phase_words(phase: Phase, out: &mut [u8]) -> usize {
+fn phase_word(phase: Phase) -> usize {
     match phase {
-        Phase::Idle => say::put(out, 0, b" Idle"),
-        Phase::Offered => say::put(out, 0, b" Offered"),
-        Phase::Crossed => say::put(out, 0, b" Crossed"),
-        Phase::Answered => say::put(out, 0, b" Answered"),
-        Phase::Open => say::put(out, 0, b" Open"),
-        Phase::Plain => say::put(out, 0, b" Plain"),
+        Phase::Idle => said::IDLE,
+        Phase::Offered => said::OFFERED,
+        Phase::Crossed => said::CROSSED,
+        Phase::Answered => said::ANSWERED,
+        Phase::Open => said::OPEN,
+        Phase::Plain => said::PHASE_PLAIN,
     }
-}
-
-fn way(out: &mut [u8], at: usize, resumed: bool) -> usize {
-    if resumed {
-        return say::put(out, at, b" resumed");
-    }
-    say::put(out, at, b" fresh")
 }
 
 fn encrypted_words(role: u8, tep: u8, resumed: bool, length: usize, out: &mut [u8]) -> usize {
-    let n = say::number(out, 0, b" role ", wide(role));
-    let n = say::hex(out, n, b" TEP ", wide(tep), 2);
-    let n = way(out, n, resumed);
-    say::number(out, n, b" transcript ", length as u64)
+    let n = say::number(out, 0, said::ROLE, wide(role));
+    let n = say::hex(out, n, said::TEP, wide(tep), 2);
+    let way = if resumed { said::RESUMED } else { said::FRESH };
+    let n = say::word(out, n, way);
+    say::number(out, n, said::TRANSCRIPT, length as u64)
 }
 
 fn reply_words(reply: Reply, out: &mut [u8]) -> usize {
     match reply {
         Reply::Refused(why) => say::refused(out, refusal_number(why)),
-        Reply::Written(n) => say::number(out, 0, b" wrote ", n as u64),
-        Reply::Plain(reason) => say::number(out, 0, b" plain ", wide(reason)),
-        Reply::Now(phase) => phase_words(phase, out),
+        Reply::Written(n) => say::number(out, 0, said::WROTE, n as u64),
+        Reply::Plain(reason) => say::number(out, 0, said::PLAIN, wide(reason)),
+        Reply::Now(phase) => say::word(out, 0, phase_word(phase)),
         Reply::Encrypted {
             role,
             tep,
             resumed,
             length,
         } => encrypted_words(role, tep, resumed, length, out),
-        Reply::Done => say::put(out, 0, b" done"),
-        Reply::Holds(n) => say::number(out, 0, b" holds ", n as u64),
+        Reply::Done => say::word(out, 0, said::DONE),
+        Reply::Holds(n) => say::number(out, 0, said::HOLDS, n as u64),
     }
 }
 
 // An offer, not application-aware, without a nonce.
 fn offer(unit: LinkUnit, door: usize, line: &[u8], lent: &mut [u8]) -> Replied {
-    let b = read::small(line, b" role ");
+    let b = read::at_most(line, word::ROLE, 255) as u8;
     let mut list = [0u8; ROOM];
-    let n = read::bytes(read::behind(line, b" TEPs"), &mut list);
-    let resume = read::has(line, b" resuming");
+    let n = read::list(line, word::TEPS, &mut list);
+    let resume = read::has(line, word::RESUMING);
     link_unit::offer(
         unit,
         door,
@@ -94,10 +90,10 @@ fn offer(unit: LinkUnit, door: usize, line: &[u8], lent: &mut [u8]) -> Replied {
 // An answer without a nonce; where it is mandatory that the other side is application-aware, this side is too.
 fn answer(unit: LinkUnit, door: usize, line: &[u8], lent: &mut [u8]) -> Replied {
     let mut area = [0u8; ROOM];
-    let long = read::bytes(read::behind(line, b" area"), &mut area);
-    let aware = read::has(line, b" mandatory-aware");
+    let long = read::list(line, word::AREA, &mut area);
+    let aware = read::has(line, word::MANDATORY);
     let mut list = [0u8; ROOM];
-    let n = read::bytes(read::behind(line, b" TEPs"), &mut list);
+    let n = read::list(line, word::TEPS, &mut list);
     link_unit::answer(
         unit,
         door,
@@ -112,9 +108,9 @@ fn answer(unit: LinkUnit, door: usize, line: &[u8], lent: &mut [u8]) -> Replied 
 
 fn receive(unit: LinkUnit, door: usize, line: &[u8]) -> Replied {
     let mut area = [0u8; ROOM];
-    let n = read::bytes(read::behind(line, b" area"), &mut area);
-    let syn = read::has(line, b" SYN");
-    let ack = read::has(line, b"ACK");
+    let n = read::list(line, word::AREA, &mut area);
+    let syn = !read::has(line, word::ACK);
+    let ack = !read::has(line, word::SYN);
     link_unit::receive(unit, door, syn, ack, read::first(&area, n))
 }
 
@@ -125,8 +121,7 @@ fn secret_of(reply: Reply) -> u8 {
         tep,
         resumed,
         length,
-    } = reply
-    {
+    } = reply {
         if resumed {
             return SECRET;
         }
@@ -151,26 +146,26 @@ fn result(unit: LinkUnit, door: usize, lent: &mut [u8]) -> Replied {
 }
 
 fn store(unit: LinkUnit, door: usize, line: &[u8]) -> Replied {
-    let tep = read::byte(line, b" TEP");
-    let b = read::small(line, b" role ");
+    let tep = read::byte(line, word::TEP);
+    let b = read::at_most(line, word::ROLE, 255) as u8;
     let mut identifier = [0u8; ROOM];
-    let n = read::bytes(read::behind(line, b" identifier"), &mut identifier);
+    let n = read::list(line, word::IDENTIFIER, &mut identifier);
     let secret = [SECRET; 32];
     link_unit::store(unit, door, tep, b, read::first(&identifier, n), &secret)
 }
 
 fn forget(unit: LinkUnit, door: usize, line: &[u8]) -> Replied {
-    let tep = read::byte(line, b" TEP");
+    let tep = read::byte(line, word::TEP);
     let mut identifier = [0u8; ROOM];
-    let n = read::bytes(read::behind(line, b" identifier"), &mut identifier);
+    let n = read::list(line, word::IDENTIFIER, &mut identifier);
     link_unit::forget(unit, door, tep, read::first(&identifier, n))
 }
 
 fn record_call(unit: LinkUnit, door: usize, line: &[u8]) -> Replied {
-    if read::has(line, b" store") {
+    if read::has(line, word::STORE) {
         return store(unit, door, line);
     }
-    if read::has(line, b" forget") {
+    if read::has(line, word::FORGET) {
         return forget(unit, door, line);
     }
     link_unit::count(unit, door)
@@ -178,8 +173,8 @@ fn record_call(unit: LinkUnit, door: usize, line: &[u8]) -> Replied {
 
 // The door that a line names; 7 where it names none.
 fn door_of(line: &[u8]) -> usize {
-    if read::has(line, b" door ") {
-        return read::number(line, b" door ") as usize;
+    if read::has(line, word::DOOR) {
+        return read::number(line, word::DOOR) as usize;
     }
     7
 }
@@ -187,19 +182,19 @@ fn door_of(line: &[u8]) -> usize {
 // The call of a line: what stands before its arrow.
 fn call(unit: LinkUnit, line: &[u8], lent: &mut [u8]) -> Replied {
     let door = door_of(line);
-    if read::has(line, b" offer") {
+    if read::has(line, word::OFFER) {
         return offer(unit, door, line, lent);
     }
-    if read::has(line, b" answer") {
+    if read::has(line, word::ANSWER) {
         return answer(unit, door, line, lent);
     }
-    if read::has(line, b" area") {
+    if read::has(line, word::AREA) {
         return receive(unit, door, line);
     }
-    if read::has(line, b" resend") {
+    if read::has(line, word::RESEND) {
         return link_unit::resend(unit, door, lent);
     }
-    if read::has(line, b" result") {
+    if read::has(line, word::RESULT) {
         return result(unit, door, lent);
     }
     record_call(unit, door, line)
@@ -208,11 +203,11 @@ fn call(unit: LinkUnit, line: &[u8], lent: &mut [u8]) -> Replied {
 // Makes the call of a line and holds the line against what came.
 pub fn made(unit: LinkUnit, line: &[u8]) -> LinkUnit {
     let mut lent = [say::FILL; say::LENT];
-    let r = call(unit, read::before(line, b" ->"), &mut lent);
+    let r = call(unit, read::given(line), &mut lent);
     let reply = r.reply;
     let mut words = [0u8; ROOM];
     let n = reply_words(reply, &mut words);
-    say::check(line, read::first(&words, n), &lent);
+    say::check(line, read::first(&words, n), &lent, say::FILL);
     let after = r.unit;
     after
 }

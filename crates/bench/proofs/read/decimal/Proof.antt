@@ -6,7 +6,7 @@ use Rattle.bench.proofs.read.decimal.Statement.{statement}
 use Rattle.bench.proofs.read.decimal.Tie as tie
 
 abbrev Inv-loop : tie.InvT-loop
-Inv-loop s i₀ n₀ i n = i ≤ length s
+Inv-loop s i₀ n₀ i n = 1 ≤ i
 
 abbrev μ-loop : tie.MeasureT-loop
 μ-loop s i₀ n₀ i n = length s - i

@@ -17,8 +17,8 @@ new-requires c κs = search needs
 loop-holds : tie.Need-loop-holds Inv-loop μ-loop
 loop-holds c = search needs
 
-line-end-requires : tie.Need-line-end-requires Inv-loop μ-loop
-line-end-requires c κs = search needs
+until-requires : tie.Need-until-requires Inv-loop μ-loop
+until-requires c κs = search needs
 
 part-requires : tie.Need-part-requires Inv-loop μ-loop
 part-requires c κs = search needs
@@ -49,7 +49,7 @@ unit-table-spec =
     μ-loop
     new-requires
     loop-holds
-    line-end-requires
+    until-requires
     part-requires
     unit-line-requires
     returns

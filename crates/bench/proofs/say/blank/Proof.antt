@@ -1,24 +1,26 @@
--- `read::line_end` meets its contract and ends: the measure is the number of bytes left.
+-- `say::blank` is safe and ends: the measure is the number of blanks left.
 use borrow.Author.Needs.{needs}
 use Prim.Native.Nat.{_≤_, _-_}
-use lib.ListN.{length}
-use Rattle.bench.proofs.read.line_end.Statement.{statement}
-use Rattle.bench.proofs.read.line_end.Tie as tie
+use Rattle.bench.proofs.say.blank.Statement.{statement}
+use Rattle.bench.proofs.say.blank.Tie as tie
 
 abbrev Inv-loop : tie.InvT-loop
-Inv-loop s at i₀ i = at ≤ i
+Inv-loop s k at₀ i₀ at i = i ≤ k
 
 abbrev μ-loop : tie.MeasureT-loop
-μ-loop s at i₀ i = length s - i
+μ-loop s k at₀ i₀ at i = k - i
 
 loop-holds : tie.Need-loop-holds Inv-loop μ-loop
 loop-holds c = search needs
 
-shared-slice-read-if1 : tie.Need-shared-slice-read-if1 Inv-loop μ-loop
-shared-slice-read-if1 c = search needs
-
 returns : tie.Need-returns Inv-loop μ-loop
 returns c = search needs
+
+add-until : tie.Need-add-until Inv-loop μ-loop
+add-until c = search needs
+
+until-requires : tie.Need-until-requires Inv-loop μ-loop
+until-requires c κs = search needs
 
 add-i : tie.Need-add-i Inv-loop μ-loop
 add-i c = search needs
@@ -32,15 +34,16 @@ loop-again c = search needs
 returns-2 : tie.Need-returns-2 Inv-loop μ-loop
 returns-2 c = search needs
 
-pub line-end-spec : {M : Type 1} → statement M
-line-end-spec =
+pub blank-spec : {M : Type 1} → statement M
+blank-spec =
     tie.close
     (tie.spec
     Inv-loop
     μ-loop
     loop-holds
-    shared-slice-read-if1
     returns
+    add-until
+    until-requires
     add-i
     loop-less
     loop-again
