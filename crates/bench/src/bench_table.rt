@@ -1,191 +1,133 @@
-// The bench table's rows that run, and K2 through the calls; K1 is RFC 8547's figure 9. R is TEP 23, role A, identifier 00 01 .. 11.
-use crate::calls;
-use crate::rows;
-use door::Refusal;
-use door::Reply;
+// The bench table's rows that run on the unit, and K2 through the calls; K1 is RFC 8547's figure 9. R is TEP 23, role A, identifier 00 .. 11.
+use crate::run;
 
 fn k2() {
-    rows::offer_opens(
-        b"K2, host A",
-        0,
-        b"\x21\x23\x24",
-        b"\x45\x05\x21\x23\x24",
-        b"\x45\x05\x01\x23\x21",
-        0x21,
-        b"\x45\x05\x21\x23\x24\x45\x05\x01\x23\x21",
-    );
-    rows::offer_crosses(
-        b"K2, host B",
-        1,
-        b"\x23\x21",
-        b"\x45\x05\x01\x23\x21",
-        b"\x45\x05\x21\x23\x24",
-        0x21,
-        b"\x45\x05\x21\x23\x24\x45\x05\x01\x23\x21",
+    run::unit_table(
+        b"\
+K2, host A
+  offer role 0 TEPs 21 23 24 -> wrote 5: 45 05 21 23 24
+  SYN+ACK area 45 05 01 23 21 -> Open
+  result -> role 0 TEP 21 fresh transcript 10: 45 05 21 23 24 45 05 01 23 21
+K2, host B
+  offer role 1 TEPs 23 21 -> wrote 5: 45 05 01 23 21
+  SYN area 45 05 21 23 24 -> Crossed
+  resend -> wrote 5: 45 05 01 23 21
+  SYN+ACK area 45 05 21 23 24 -> Open
+  result -> role 1 TEP 21 fresh transcript 10: 45 05 21 23 24 45 05 01 23 21
+",
     );
 }
 
 fn r_offered() {
-    rows::offer_resumes(
-        b"R held, offer 21 23 resuming, answer 45 0d 01 a3 09 .. 11: resumed",
-        0,
-        b"\x21\x23",
-        b"\x45\x0d\x21\xa3\x00\x01\x02\x03\x04\x05\x06\x07\x08",
-        b"\x45\x0d\x01\xa3\x09\x0a\x0b\x0c\x0d\x0e\x0f\x10\x11",
-        b"\x45\x0d\x21\xa3\x00\x01\x02\x03\x04\x05\x06\x07\x08\x45\x0d\x01\xa3\x09\x0a\x0b\x0c\x0d\x0e\x0f\x10\x11",
-    );
-    rows::offer_resuming_plain(
-        b"R held, offer 21 23 resuming, answer 45 0d 01 a3 00 .. 08: reason 6",
-        b"\x21\x23",
-        b"\x45\x0d\x21\xa3\x00\x01\x02\x03\x04\x05\x06\x07\x08",
-        b"\x45\x0d\x01\xa3\x00\x01\x02\x03\x04\x05\x06\x07\x08",
-        6,
-    );
-    rows::offer_not_resumed(
-        b"R held, offer 21 23 resuming, answer 45 04 01 23: fresh, R gone",
-        b"\x21\x23",
-        b"\x45\x0d\x21\xa3\x00\x01\x02\x03\x04\x05\x06\x07\x08",
-        b"\x45\x04\x01\x23",
-        0x23,
-        b"\x45\x0d\x21\xa3\x00\x01\x02\x03\x04\x05\x06\x07\x08\x45\x04\x01\x23",
+    run::unit_table(
+        b"\
+R held, offer 21 23 resuming, answer 45 0d 01 a3 09 .. 11: resumed
+  store TEP 23 role 0 identifier 00 .. 11 -> done
+  offer role 0 TEPs 21 23 resuming -> wrote 13: 45 0d 21 a3 00 .. 08
+  SYN+ACK area 45 0d 01 a3 09 .. 11 -> Open
+  result -> role 0 TEP a3 resumed transcript 26: 45 0d 21 a3 00 .. 08 45 0d 01 a3 09 .. 11
+R held, offer 21 23 resuming, answer 45 0d 01 a3 00 .. 08: reason 6
+  store TEP 23 role 0 identifier 00 .. 11 -> done
+  offer role 0 TEPs 21 23 resuming -> wrote 13: 45 0d 21 a3 00 .. 08
+  SYN+ACK area 45 0d 01 a3 00 .. 08 -> plain 6
+  result -> plain 6
+  count -> holds 0
+  forget TEP 23 identifier 00 .. 11 -> refused 16
+  store TEP 23 role 0 identifier 00 .. 11 -> done
+R held, offer 21 23 resuming, answer 45 04 01 23: fresh, R gone
+  store TEP 23 role 0 identifier 00 .. 11 -> done
+  offer role 0 TEPs 21 23 resuming -> wrote 13: 45 0d 21 a3 00 .. 08
+  SYN+ACK area 45 04 01 23 -> Open
+  result -> role 0 TEP 23 fresh transcript 17: 45 0d 21 a3 00 .. 08 45 04 01 23
+  count -> holds 0
+  forget TEP 23 identifier 00 .. 11 -> refused 16
+  store TEP 23 role 0 identifier 00 .. 11 -> done
+",
     );
 }
 
 fn data_from_b() {
-    rows::offer_not_resumed(
-        b"resumption data of 8 bytes from host B: fresh",
-        b"\x21\x23",
-        b"\x45\x0d\x21\xa3\x00\x01\x02\x03\x04\x05\x06\x07\x08",
-        b"\x45\x0c\x01\xa3\x09\x0a\x0b\x0c\x0d\x0e\x0f\x10",
-        0xa3,
-        b"\x45\x0d\x21\xa3\x00\x01\x02\x03\x04\x05\x06\x07\x08\x45\x0c\x01\xa3\x09\x0a\x0b\x0c\x0d\x0e\x0f\x10",
-    );
-    rows::offer_resumes(
-        b"resumption data of 9 bytes from host B: resumption",
-        0,
-        b"\x21\x23",
-        b"\x45\x0d\x21\xa3\x00\x01\x02\x03\x04\x05\x06\x07\x08",
-        b"\x45\x0d\x01\xa3\x09\x0a\x0b\x0c\x0d\x0e\x0f\x10\x11",
-        b"\x45\x0d\x21\xa3\x00\x01\x02\x03\x04\x05\x06\x07\x08\x45\x0d\x01\xa3\x09\x0a\x0b\x0c\x0d\x0e\x0f\x10\x11",
-    );
-    rows::offer_resumes(
-        b"resumption data of 17 bytes from host B: resumption",
-        0,
-        b"\x21\x23",
-        b"\x45\x0d\x21\xa3\x00\x01\x02\x03\x04\x05\x06\x07\x08",
-        b"\x45\x15\x01\xa3\x09\x0a\x0b\x0c\x0d\x0e\x0f\x10\x11\xf0\xf1\xf2\xf3\xf4\xf5\xf6\xf7",
-        b"\x45\x0d\x21\xa3\x00\x01\x02\x03\x04\x05\x06\x07\x08\x45\x15\x01\xa3\x09\x0a\x0b\x0c\x0d\x0e\x0f\x10\x11\xf0\xf1\xf2\xf3\xf4\xf5\xf6\xf7",
-    );
-    rows::offer_resuming_plain(
-        b"resumption data of 18 bytes from host B: bad",
-        b"\x21\x23",
-        b"\x45\x0d\x21\xa3\x00\x01\x02\x03\x04\x05\x06\x07\x08",
-        b"\x45\x16\x01\xa3\x09\x0a\x0b\x0c\x0d\x0e\x0f\x10\x11\xf0\xf1\xf2\xf3\xf4\xf5\xf6\xf7\xf8",
-        6,
+    run::unit_table(
+        b"\
+resumption data of 8 bytes from host B: fresh
+  store TEP 23 role 0 identifier 00 .. 11 -> done
+  offer role 0 TEPs 21 23 resuming -> wrote 13: 45 0d 21 a3 00 .. 08
+  SYN+ACK area 45 0c 01 a3 09 .. 10 -> Open
+  result -> role 0 TEP a3 fresh transcript 25: 45 0d 21 a3 00 .. 08 45 0c 01 a3 09 .. 10
+  count -> holds 0
+  forget TEP 23 identifier 00 .. 11 -> refused 16
+  store TEP 23 role 0 identifier 00 .. 11 -> done
+resumption data of 9 bytes from host B: resumption
+  store TEP 23 role 0 identifier 00 .. 11 -> done
+  offer role 0 TEPs 21 23 resuming -> wrote 13: 45 0d 21 a3 00 .. 08
+  SYN+ACK area 45 0d 01 a3 09 .. 11 -> Open
+  result -> role 0 TEP a3 resumed transcript 26: 45 0d 21 a3 00 .. 08 45 0d 01 a3 09 .. 11
+resumption data of 17 bytes from host B: resumption
+  store TEP 23 role 0 identifier 00 .. 11 -> done
+  offer role 0 TEPs 21 23 resuming -> wrote 13: 45 0d 21 a3 00 .. 08
+  SYN+ACK area 45 15 01 a3 09 .. 11 f0 .. f7 -> Open
+  result -> role 0 TEP a3 resumed transcript 34: 45 0d 21 a3 00 .. 08 45 15 01 a3 09 .. 11 f0 .. f7
+resumption data of 18 bytes from host B: bad
+  store TEP 23 role 0 identifier 00 .. 11 -> done
+  offer role 0 TEPs 21 23 resuming -> wrote 13: 45 0d 21 a3 00 .. 08
+  SYN+ACK area 45 16 01 a3 09 .. 11 f0 .. f8 -> plain 6
+  result -> plain 6
+  count -> holds 0
+  forget TEP 23 identifier 00 .. 11 -> refused 16
+  store TEP 23 role 0 identifier 00 .. 11 -> done
+",
     );
 }
 
 fn data_from_a() {
-    rows::answer_not_resumed(
-        b"resumption data of 8 bytes from host A: fresh",
-        b"\x45\x0b\xa3\x09\x0a\x0b\x0c\x0d\x0e\x0f\x10",
-        b"\x45\x04\x01\x23",
-        b"\x45\x0b\xa3\x09\x0a\x0b\x0c\x0d\x0e\x0f\x10\x45\x04\x01\x23",
-    );
-    rows::answer_resumes(
-        b"resumption data of 9 bytes from host A: resumption",
-        b"\x45\x0c\xa3\x09\x0a\x0b\x0c\x0d\x0e\x0f\x10\x11",
-        b"\x45\x0d\x01\xa3\x00\x01\x02\x03\x04\x05\x06\x07\x08",
-        b"\x45\x0c\xa3\x09\x0a\x0b\x0c\x0d\x0e\x0f\x10\x11\x45\x0d\x01\xa3\x00\x01\x02\x03\x04\x05\x06\x07\x08",
-    );
-    rows::answer_resumes(
-        b"resumption data of 17 bytes from host A: resumption",
-        b"\x45\x14\xa3\x09\x0a\x0b\x0c\x0d\x0e\x0f\x10\x11\xf0\xf1\xf2\xf3\xf4\xf5\xf6\xf7",
-        b"\x45\x0d\x01\xa3\x00\x01\x02\x03\x04\x05\x06\x07\x08",
-        b"\x45\x14\xa3\x09\x0a\x0b\x0c\x0d\x0e\x0f\x10\x11\xf0\xf1\xf2\xf3\xf4\xf5\xf6\xf7\x45\x0d\x01\xa3\x00\x01\x02\x03\x04\x05\x06\x07\x08",
-    );
-    rows::answer_holding_plain(
-        b"resumption data of 18 bytes from host A: bad",
-        b"\x45\x15\xa3\x09\x0a\x0b\x0c\x0d\x0e\x0f\x10\x11\xf0\xf1\xf2\xf3\xf4\xf5\xf6\xf7\xf8",
-        6,
-    );
-}
-
-fn doors_23_and_24() {
-    let u = calls::row(b"doors 23, 24: taken, 1");
-    let u = calls::store(
-        u,
-        23,
-        0x23,
-        0,
-        b"\x00\x01\x02\x03\x04\x05\x06\x07\x08\x09\x0a\x0b\x0c\x0d\x0e\x0f\x10\x11",
-        Reply::Done,
-    );
-    let u = calls::store(
-        u,
-        24,
-        0x23,
-        0,
-        b"\x00\x01\x02\x03\x04\x05\x06\x07\x08\x09\x0a\x0b\x0c\x0d\x0e\x0f\x10\x11",
-        Reply::Refused(Refusal::NoDoor),
-    );
-    let u = calls::count(u, 23, Reply::Holds(1));
-    let u = calls::count(u, 24, Reply::Refused(Refusal::NoDoor));
-    let u = calls::offer(u, 23, 0, b"\x23", false, Reply::Written(3), b"\x45\x03\x23");
-    calls::offer(
-        u,
-        24,
-        0,
-        b"\x23",
-        false,
-        Reply::Refused(Refusal::NoDoor),
-        b"",
+    run::unit_table(
+        b"\
+resumption data of 8 bytes from host A: fresh
+  store TEP 23 role 0 identifier 00 .. 11 -> done
+  answer area 45 0b a3 09 .. 10 TEPs 23 -> wrote 4: 45 04 01 23
+  ACK area 45 02 -> Open
+  result -> role 1 TEP 23 fresh transcript 15: 45 0b a3 09 .. 10 45 04 01 23
+  count -> holds 1
+resumption data of 9 bytes from host A: resumption
+  store TEP 23 role 0 identifier 00 .. 11 -> done
+  answer area 45 0c a3 09 .. 11 TEPs 23 -> wrote 13: 45 0d 01 a3 00 .. 08
+  ACK area 45 02 -> Open
+  result -> role 1 TEP a3 resumed transcript 25: 45 0c a3 09 .. 11 45 0d 01 a3 00 .. 08
+  count -> holds 0
+resumption data of 17 bytes from host A: resumption
+  store TEP 23 role 0 identifier 00 .. 11 -> done
+  answer area 45 14 a3 09 .. 11 f0 .. f7 TEPs 23 -> wrote 13: 45 0d 01 a3 00 .. 08
+  ACK area 45 02 -> Open
+  result -> role 1 TEP a3 resumed transcript 33: 45 14 a3 09 .. 11 f0 .. f7 45 0d 01 a3 00 .. 08
+  count -> holds 0
+resumption data of 18 bytes from host A: bad
+  store TEP 23 role 0 identifier 00 .. 11 -> done
+  answer area 45 15 a3 09 .. 11 f0 .. f8 TEPs 23 -> plain 6
+  result -> plain 6
+  count -> holds 1
+",
     );
 }
 
-fn fifth_record() {
-    let u = calls::row(b"fifth record: 6");
-    let u = calls::store(
-        u,
-        rows::DOOR,
-        0x21,
-        0,
-        b"\x00\x01\x02\x03\x04\x05\x06\x07\x08\x09\x0a\x0b\x0c\x0d\x0e\x0f\x10\x11",
-        Reply::Done,
+fn doors_and_records() {
+    run::unit_table(
+        b"\
+doors 23, 24: taken, 1
+  door 23 store TEP 23 role 0 identifier 00 .. 11 -> done
+  door 24 store TEP 23 role 0 identifier 00 .. 11 -> refused 1
+  door 23 count -> holds 1
+  door 24 count -> refused 1
+  door 23 offer role 0 TEPs 23 -> wrote 3: 45 03 23
+  door 24 offer role 0 TEPs 23 -> refused 1
+fifth record: 6
+  store TEP 21 role 0 identifier 00 .. 11 -> done
+  store TEP 22 role 0 identifier 00 .. 11 -> done
+  store TEP 23 role 0 identifier 00 .. 11 -> done
+  store TEP 24 role 0 identifier 00 .. 11 -> done
+  store TEP 23 role 0 identifier 01 01 .. 11 -> refused 6
+  count -> holds 4
+",
     );
-    let u = calls::store(
-        u,
-        rows::DOOR,
-        0x22,
-        0,
-        b"\x00\x01\x02\x03\x04\x05\x06\x07\x08\x09\x0a\x0b\x0c\x0d\x0e\x0f\x10\x11",
-        Reply::Done,
-    );
-    let u = calls::store(
-        u,
-        rows::DOOR,
-        0x23,
-        0,
-        b"\x00\x01\x02\x03\x04\x05\x06\x07\x08\x09\x0a\x0b\x0c\x0d\x0e\x0f\x10\x11",
-        Reply::Done,
-    );
-    let u = calls::store(
-        u,
-        rows::DOOR,
-        0x24,
-        0,
-        b"\x00\x01\x02\x03\x04\x05\x06\x07\x08\x09\x0a\x0b\x0c\x0d\x0e\x0f\x10\x11",
-        Reply::Done,
-    );
-    let u = calls::store(
-        u,
-        rows::DOOR,
-        0x23,
-        0,
-        b"\x01\x01\x02\x03\x04\x05\x06\x07\x08\x09\x0a\x0b\x0c\x0d\x0e\x0f\x10\x11",
-        Reply::Refused(Refusal::Full),
-    );
-    calls::count(u, rows::DOOR, Reply::Holds(4));
 }
 
 pub fn table() {
@@ -193,6 +135,5 @@ pub fn table() {
     r_offered();
     data_from_b();
     data_from_a();
-    doors_23_and_24();
-    fifth_record();
+    doors_and_records();
 }

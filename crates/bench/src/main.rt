@@ -1,12 +1,24 @@
-// The bench table's rows that run, and the worked examples of the RFCs: each row's given and expected bytes stand in its source.
+// The bench table's rows that run, and the worked examples of the RFCs: a line of a table is a call, with what is given and, behind its arrow, what is expected.
 mod bench_table;
-mod calls;
-mod print;
+mod frame_calls;
+mod frame_rows;
+mod generation_calls;
+mod generation_rows;
+mod init_calls;
+mod init_rows;
+mod plaintext_calls;
+mod read;
 mod rfc8547;
-mod rows;
+mod run;
+mod said;
+mod say;
+mod unit_calls;
+mod word;
 
 fn main() {
     rfc8547::table();
     bench_table::table();
-    // The rows on Init messages and frames are still to come.
+    init_rows::table();
+    frame_rows::table();
+    generation_rows::table();
 }

@@ -1,0 +1,59 @@
+-- `run::table` is safe and ends: the measure is the number of bytes left.
+use borrow.Author.Needs.{needs}
+use Prim.Native.Nat.{_≤_, _-_}
+use lib.ListN.{length}
+use Rattle.bench.proofs.run.table.Statement.{statement}
+use Rattle.bench.proofs.run.table.Tie as tie
+
+abbrev Inv-loop : tie.InvT-loop
+Inv-loop table g₀ at₀ g at = at ≤ length table
+
+abbrev μ-loop : tie.MeasureT-loop
+μ-loop table g₀ at₀ g at = length table - at
+
+first-record-requires : tie.Need-first-record-requires Inv-loop μ-loop
+first-record-requires c κs = search needs
+
+loop-holds : tie.Need-loop-holds Inv-loop μ-loop
+loop-holds c = search needs
+
+until-requires : tie.Need-until-requires Inv-loop μ-loop
+until-requires c κs = search needs
+
+part-requires : tie.Need-part-requires Inv-loop μ-loop
+part-requires c κs = search needs
+
+other-line-requires : tie.Need-other-line-requires Inv-loop μ-loop
+other-line-requires c κs = search needs
+
+returns : tie.Need-returns Inv-loop μ-loop
+returns c = search needs
+
+add-at : tie.Need-add-at Inv-loop μ-loop
+add-at c = search needs
+
+loop-less : tie.Need-loop-less Inv-loop μ-loop
+loop-less c = search needs
+
+loop-again : tie.Need-loop-again Inv-loop μ-loop
+loop-again c = search needs
+
+returns-2 : tie.Need-returns-2 Inv-loop μ-loop
+returns-2 c = search needs
+
+pub table-spec : {M : Type 1} → statement M
+table-spec =
+    tie.close
+    (tie.spec
+    Inv-loop
+    μ-loop
+    first-record-requires
+    loop-holds
+    until-requires
+    part-requires
+    other-line-requires
+    returns
+    add-at
+    loop-less
+    loop-again
+    returns-2)

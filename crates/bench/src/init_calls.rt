@@ -1,0 +1,133 @@
+// Lines that write or read an Init message.
+use crate::read;
+use crate::said;
+use crate::say;
+use crate::word;
+use init::Enabled;
+use init::InitAnswer;
+use init::InitRead;
+use init::InitWritten;
+
+// Reads the ciphers behind a word, two bytes each, of which there are at most eight. Gives how many.
+fn ciphers(line: &[u8], word: u32, out: &mut [u16]) -> usize {
+    let mut list = [0u8; 16];
+    let n = read::list(line, word, &mut list) / 2;
+    let mut i = 0;
+    while i < 8 {
+        if out.len() <= i {
+            return n;
+        }
+        out[i] = wire::read_u16(&list, 2 * i);
+        i += 1;
+    }
+    n
+}
+
+// The first n ciphers; all where there are fewer.
+fn first(ciphers: &[u16], n: usize) -> &[u16] {
+    if ciphers.len() < n {
+        return ciphers;
+    }
+    &ciphers[0..n]
+}
+
+fn written_words(came: InitWritten, out: &mut [u8]) -> usize {
+    match came {
+        InitWritten::Written(n) => say::number(out, 0, said::WROTE, n as u64),
+        InitWritten::Unfit => say::refused(out, 3),
+        InitWritten::NoRoom => say::refused(out, 5),
+    }
+}
+
+fn taken(line: &[u8]) -> u16 {
+    let mut cipher = [0u8; 2];
+    read::list(line, word::TAKEN, &mut cipher);
+    wire::read_u16(&cipher, 0)
+}
+
+fn write1(line: &[u8], nonce: &[u8], key: &[u8], lent: &mut [u8]) -> InitWritten {
+    let tep = read::byte(line, word::TEP);
+    let mut offered = [0u16; 8];
+    let n = ciphers(line, word::CIPHERS, &mut offered);
+    init::init1_write(tep, first(&offered, n), nonce, key, lent)
+}
+
+// Init2 where the line names the cipher that is taken, else Init1.
+fn write(line: &[u8], lent: &mut [u8]) -> InitWritten {
+    let room = read::at_most(line, word::INTO, lent.len());
+    let part = &mut lent[0..room];
+    let mut nonce = [0u8; 64];
+    let nonces = read::list(line, word::NONCE, &mut nonce);
+    let mut key = [0u8; 64];
+    let keys = read::list(line, word::KEY, &mut key);
+    let sent = read::first(&nonce, nonces);
+    let public = read::first(&key, keys);
+    if read::has(line, word::TAKEN) {
+        let tep = read::byte(line, word::TEP);
+        return init::init2_write(tep, taken(line), sent, public, part);
+    }
+    write1(line, sent, public, part)
+}
+
+pub fn written(line: &[u8]) {
+    let mut lent = [say::FILL; say::LENT];
+    let came = write(read::given(line), &mut lent);
+    let mut words = [0u8; 80];
+    let n = written_words(came, &mut words);
+    say::check(line, read::first(&words, n), &lent, say::FILL);
+}
+
+fn read_words(cipher: u16, count: usize, length: usize, out: &mut [u8]) -> usize {
+    let n = say::hex(out, 0, said::CIPHER, cipher as u64, 4);
+    let n = say::number(out, n, said::COUNT, count as u64);
+    say::number(out, n, said::LENGTH, length as u64)
+}
+
+fn answer_words(answer: InitAnswer, out: &mut [u8]) -> usize {
+    match answer {
+        InitAnswer::Read {
+            cipher,
+            count,
+            length,
+        } => read_words(cipher, count, length, out),
+        InitAnswer::Unfit => say::refused(out, 3),
+        InitAnswer::Unreadable => say::refused(out, 8),
+        InitAnswer::Incomplete => say::refused(out, 9),
+        InitAnswer::NoCommonCipher => say::refused(out, 10),
+    }
+}
+
+fn enabled(line: &[u8]) -> Enabled {
+    Enabled {
+        aes128: read::has(line, word::AES128),
+        aes256: read::has(line, word::AES256),
+        chacha20: read::has(line, word::CHACHA20),
+    }
+}
+
+// Init2 where the line says which ciphers this end offered, else Init1.
+fn read_message(line: &[u8]) -> InitRead {
+    let tep = read::byte(line, word::TEP);
+    let mut message = [0u8; 128];
+    let n = read::list(line, word::BYTES, &mut message);
+    if read::has(line, word::OFFERED) {
+        let mut own = [0u16; 8];
+        let k = ciphers(line, word::OFFERED, &mut own);
+        return init::init2_read(tep, first(&own, k), read::first(&message, n));
+    }
+    init::init1_read(tep, enabled(line), read::first(&message, n))
+}
+
+// What is read: the nonce and the key, as its array has it, stand behind the colon.
+pub fn told(line: &[u8]) {
+    let r = read_message(read::given(line));
+    let answer = r.answer;
+    let nonce = r.nonce;
+    let key = r.key;
+    let mut given = [0u8; say::LENT];
+    wire::copy(&mut given, 0, &nonce);
+    wire::copy(&mut given, 32, &key);
+    let mut words = [0u8; 80];
+    let n = answer_words(answer, &mut words);
+    say::check(line, read::first(&words, n), &given, 0);
+}
