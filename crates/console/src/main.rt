@@ -78,6 +78,8 @@ fn main() {
     let mut second = [0u8; 10000];
     let mut third = [0u8; 10000];
     let mut lent = [0u8; 10000];
+    // A reply has at most one word without a bound of its own, a lent buffer or a part of the line's bytes: under 20,000 digits, as the line has. All its other words, the longest
+    // being a nonce of 32 and a key of 56 bytes, stay under 200 bytes.
     let mut out = [0u8; 24576];
     run(
         &mut chunk,

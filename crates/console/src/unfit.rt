@@ -52,11 +52,7 @@ fn put_form(out: &mut [u8], at: usize, form: Form) -> usize {
         Form::Cipher => put(out, at, b" is four hex digits"),
         Form::Bytes => put(out, at, b" is lower-case hex, two digits a byte, or -"),
         Form::Ciphers => put(out, at, b" is lower-case hex, four digits a cipher, or -"),
-        Form::Enabled => put(
-            out,
-            at,
-            b" is a list of 0001, 0002 and 0010, or -",
-        ),
+        Form::Enabled => put(out, at, b" is a list of 0001, 0002 and 0010, or -"),
     }
 }
 
