@@ -41,7 +41,7 @@ pub struct Plaintext<'a> {
 /// ```
 /// use door_link::{next_offset, Error, Refusal};
 /// assert_eq!(next_offset(75, 17), Ok(95));
-/// assert_eq!(next_offset(75, 16), Err(Error::Refused(Refusal::BeyondFrame)));
+/// assert_eq!(next_offset(75, 16), Err(Error::Refused(Refusal::NoFrame)));
 /// ```
 #[inline]
 pub fn next_offset(offset: u64, length: usize) -> Result<u64, Error> {
@@ -202,7 +202,7 @@ mod tests {
         };
         assert!(of(12, usize::MAX, 17, 1, [0xff; 3]).is_ok_and(|read| read.rekey));
         assert!(of(12, 20, 0xffff, 0, [0; 3]).is_ok_and(|read| !read.rekey));
-        let refused = Err(Error::Refused(Refusal::BeyondFrame));
+        let refused = Err(Error::Refused(Refusal::NoFrame));
         assert_eq!(of(0, 11, 0, 0, [0; 3]), refused);
         for unexpected in [
             of(12, 20, 16, 0, [0; 3]),
@@ -249,7 +249,7 @@ mod tests {
         };
         assert_eq!(of(14, 1, 1, 0, 0, 1), Ok(0));
         assert_eq!(of(14, 3, 0, 1, 7, 5), Ok(2));
-        let refused = Err(Error::Refused(Refusal::ShortPlaintext));
+        let refused = Err(Error::Refused(Refusal::NoPlaintext));
         assert_eq!(of(0, 12, 0, 0, 0, 5), refused);
         for unexpected in [
             of(14, 1, 0, 0, 0, 0),

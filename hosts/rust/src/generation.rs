@@ -17,7 +17,7 @@ use crate::{ffi, Error};
 /// assert_eq!(generations.initiate(true, false), Err(Error::Refused(Refusal::OutOfTurn)));
 /// assert_eq!(generations.send(true)?, Sent { generation: 1, rekey: true });
 /// assert_eq!(generations, Generations { local: 1, remote: 1, last: 1, fin: true });
-/// assert_eq!(generations.send(false), Err(Error::Refused(Refusal::AfterFin)));
+/// assert_eq!(generations.send(false), Err(Error::Refused(Refusal::Finished)));
 /// # Ok(())
 /// # }
 /// ```
@@ -158,7 +158,7 @@ mod tests {
 
     #[test]
     fn numbers_that_the_header_has_not() {
-        let refused = Error::Refused(Refusal::AfterFin);
+        let refused = Error::Refused(Refusal::Finished);
         assert_eq!(sent(&numbers(0, 14, 0), BEFORE), Err(refused));
         assert_eq!(received(&numbers(0, 14, 0), BEFORE), Err(refused));
         let frame = Sent {

@@ -226,7 +226,7 @@ mod tests {
     #[test]
     fn numbers_that_the_header_has_not() {
         let refused = numbers(0, 8);
-        let expected = Err(Error::Refused(Refusal::NotInit));
+        let expected = Err(Error::Refused(Refusal::NoInit));
         assert_eq!(init(&refused, 0x23, 100), expected);
         let mut changed = [refused; 4];
         changed[0].count = 1;

@@ -34,21 +34,21 @@ pub enum Refusal {
     /// The door holds, or has in hand, a record of this TEP and identifier.
     AlreadyHeld = 7,
     /// The bytes are no Init message, whatever follows them.
-    NotInit = 8,
+    NoInit = 8,
     /// The Init message is not complete; or a frame's header is below three bytes.
     Incomplete = 9,
     /// There is no common cipher.
     NoCipher = 10,
     /// The frame's ciphertext is below 17 or above 65,535 bytes (a plaintext above 65,519), or the offset after it passes 2^64 - 1.
-    BeyondFrame = 11,
+    NoFrame = 11,
     /// The plaintext has no bytes, or URGp and fewer than three.
-    ShortPlaintext = 12,
+    NoPlaintext = 12,
     /// A generation would pass 65,535.
-    LastGeneration = 13,
+    PastLast = 13,
     /// FINp was sent.
-    AfterFin = 14,
+    Finished = 14,
     /// A generation may not be begun without data while the other end's is below this end's.
-    NoData = 15,
+    Unanswered = 15,
     /// The door holds no record of this TEP and identifier.
     NotHeld = 16,
 }
@@ -69,14 +69,14 @@ impl Refusal {
             5 => Refusal::NoRoom,
             6 => Refusal::Full,
             7 => Refusal::AlreadyHeld,
-            8 => Refusal::NotInit,
+            8 => Refusal::NoInit,
             9 => Refusal::Incomplete,
             10 => Refusal::NoCipher,
-            11 => Refusal::BeyondFrame,
-            12 => Refusal::ShortPlaintext,
-            13 => Refusal::LastGeneration,
-            14 => Refusal::AfterFin,
-            15 => Refusal::NoData,
+            11 => Refusal::NoFrame,
+            12 => Refusal::NoPlaintext,
+            13 => Refusal::PastLast,
+            14 => Refusal::Finished,
+            15 => Refusal::Unanswered,
             16 => Refusal::NotHeld,
             _ => return None,
         })
@@ -93,14 +93,14 @@ impl fmt::Display for Refusal {
             Refusal::NoRoom => "the lent buffer is too short",
             Refusal::Full => "the door holds four session records",
             Refusal::AlreadyHeld => "the door has this session record already",
-            Refusal::NotInit => "no Init message begins so",
+            Refusal::NoInit => "no Init message begins so",
             Refusal::Incomplete => "more bytes are needed",
             Refusal::NoCipher => "there is no common cipher",
-            Refusal::BeyondFrame => "a length or an offset that no frame has",
-            Refusal::ShortPlaintext => "the plaintext is too short",
-            Refusal::LastGeneration => "the generations are used up",
-            Refusal::AfterFin => "FINp was sent",
-            Refusal::NoData => {
+            Refusal::NoFrame => "a length or an offset that no frame has",
+            Refusal::NoPlaintext => "the plaintext is too short",
+            Refusal::PastLast => "the generations are used up",
+            Refusal::Finished => "FINp was sent",
+            Refusal::Unanswered => {
                 "a generation is begun with data, or once the other end has followed"
             }
             Refusal::NotHeld => "the door does not hold this session record",

@@ -1,6 +1,6 @@
-//! The library's exports as hosts/c/door_link.h has them, each behind a safe function. All `unsafe` of the crate is here.
+//! The library's exports as hosts/c/door_link.h and door_link_messages.h have them, each behind a safe function. All `unsafe` of the crate is here.
 //!
-//! What the header asks of a caller: no null pointer (a slice has none, an empty one included), all bytes of a length readable and those of a
+//! What the headers ask of a caller: no null pointer (a slice has none, an empty one included), all bytes of a length readable and those of a
 //! lent buffer writable (a slice's are), no lent buffer that overlaps an input (a `&mut` slice overlaps no other), a unit that the library made
 //! (`Unit` has no other maker than `new` and the calls), and a `bool` that is 0 or 1 (Rust's is).
 //!
