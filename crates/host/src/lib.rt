@@ -1,11 +1,11 @@
 // The unit's calls, and the finder's word.
-use host_reply::ReplyNumbers;
-use host_reply::of_kind;
-use host_reply::wide;
 use door::Phase;
 use door::Refusal;
 use door::Reply;
 use finder::FindStatus;
+use host_reply::ReplyNumbers;
+use host_reply::of_kind;
+use host_reply::wide;
 use unit::LinkUnit;
 ghost use mathlib.Core.Path.{_≡_};
 ghost use mathlib.Core.List.{[]};

@@ -1,7 +1,4 @@
 // Frames: offsets, headers, frame IDs, nonces and plaintexts.
-use host_reply::ReplyNumbers;
-use host_reply::flag_number;
-use host_reply::of_kind;
 use frame::HeaderRead;
 use frame::HeaderSays;
 use frame::HeaderWritten;
@@ -10,6 +7,9 @@ use frame::NonceMade;
 use frame::NonceSays;
 use frame::PlaintextRead;
 use frame::PlaintextWritten;
+use host_reply::ReplyNumbers;
+use host_reply::flag_number;
+use host_reply::of_kind;
 ghost use mathlib.Core.Path.{_≡_};
 ghost use Rattle.wire.specs.Frame.{frameId};
 ghost use Rattle.frame_layout.specs.Calls.{Ask, outcome};

@@ -1,8 +1,8 @@
 // Generations: the steps of a connection's record, by value.
-use host_reply::flag_number;
 use generation::GenerationRecord;
 use generation::GenerationReply;
 use generation::GenerationStep;
+use host_reply::flag_number;
 ghost use mathlib.Core.Path.{_≡_};
 ghost use Rattle.generation.specs.Steps.{Ask, first, owed, outcome};
 ghost use Rattle.generation.specs.Answers.{stepOf};

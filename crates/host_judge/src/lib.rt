@@ -1,8 +1,8 @@
 // The judge: what two option areas come to.
+use eno::InHand;
 use host_reply::ReplyNumbers;
 use host_reply::flag_number;
 use host_reply::of_kind;
-use eno::InHand;
 use judge::Reason;
 use judge::Verdict;
 ghost use mathlib.Core.Path.{_≡_};

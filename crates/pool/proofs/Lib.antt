@@ -1,5 +1,4 @@
 -- Laws of the pool's functions.
 pub mod Rows
 pub mod Gathering
-pub mod ClosingUp
 pub mod Carrying

@@ -8,19 +8,12 @@ use unit::DOORS;
 use unit::LinkUnit;
 use unit::Position;
 use unit::ROWS;
-ghost use Prim.Native.Nat.{_<_};
 ghost use mathlib.Core.Path.{_≡_};
-ghost use mathlib.Core.List.{[], _∷_, _++_};
-ghost use lib.ListN.{length};
-ghost use Rattle.door.specs.Numbers.{eachN};
 ghost use Rattle.door.specs.Door.{seenOf};
-ghost use Rattle.door.specs.Calls.{cut};
-ghost use Rattle.door.specs.Outcome.{keep, add, remove};
+ghost use Rattle.door.specs.Outcome.{keep};
 ghost use Rattle.door.specs.Answers.{effectOf};
-ghost use Rattle.unit.specs.Unit.{firstFree, countOf, emptyUnit};
+ghost use Rattle.unit.specs.Unit.{firstFree, emptyUnit};
 ghost use Rattle.pool.specs.Carried.{viewAt, enactFit};
-
-const LAST: usize = EACH - 1;
 
 // The empty unit.
 pub fn empty_unit() -> LinkUnit
@@ -59,19 +52,6 @@ pub fn first_free(owners: &[u8]) -> usize
     i
 }
 
-fn wide(x: u8) -> usize
-    ensures { λ r. ⌜ r ≡ x ⌝ }
-{
-    x as usize
-}
-
-// How many rows a door lists; its list has a place for each.
-fn count_of(position: Position) -> usize
-    ensures { λ r. ⌜ (r ≡ countOf position) × (length (position .rows) ≡ eachN) ⌝ }
-{
-    door::listed_count(position.count)
-}
-
 // What a door sees.
 pub fn view_of(unit: LinkUnit, d: usize) -> View
     ensures { λ r. ⌜ seenOf r ≡ viewAt unit d ⌝ }
@@ -87,10 +67,10 @@ pub fn view_of(unit: LinkUnit, d: usize) -> View
         };
     }
     let position = unit.doors[d];
-    let n = count_of(position);
+    let n = row_list::count_of(position);
     let mut i = 0;
     while i < n {
-        let row = wide(position.rows[i]);
+        let row = row_list::wide(position.rows[i]);
         if row < ROWS {
             let session = unit.rows[row];
             held[i] = session;
@@ -102,21 +82,6 @@ pub fn view_of(unit: LinkUnit, d: usize) -> View
         count: position.count,
         held,
     }
-}
-
-// The numbers without the j-th: those after it move up, and a zero follows.
-fn closed_up(numbers: [u8; EACH], j: usize) -> [u8; EACH]
-    requires { ⌜ j < eachN ⌝ }
-    ensures { λ r. ⌜ r ≡ cut j numbers ++ 0 ∷ [] ⌝ }
-{
-    let mut left = numbers;
-    let mut k = j;
-    while k < LAST {
-        left[k] = numbers[k + 1];
-        k += 1;
-    }
-    left[LAST] = 0;
-    left
 }
 
 // The unit with other data of a door.
@@ -133,70 +98,8 @@ pub fn with_door(unit: LinkUnit, d: usize, after: Door) -> LinkUnit
     u
 }
 
-// The unit with one record more at a door: in the lowest free row, last in the door's list.
-pub fn with_record(unit: LinkUnit, d: usize, after: Door, added: SessionRecord) -> LinkUnit
-    ensures { λ r. ⌜ r ≡ enactFit unit d after (add added) ⌝ }
-{
-    let mut u = unit;
-    if DOORS <= d {
-        return u;
-    }
-    let position = u.doors[d];
-    let n = count_of(position);
-    if EACH <= n {
-        return u;
-    }
-    let row = first_free(&u.owners);
-    if ROWS <= row {
-        return u;
-    }
-    let mut numbers = position.rows;
-    numbers[n] = row as u8;
-    let count = (n + 1) as u8;
-    let next = Position {
-        door: after,
-        count,
-        rows: numbers,
-    };
-    u.owners[row] = (d + 1) as u8;
-    u.rows[row] = added;
-    u.doors[d] = next;
-    u
-}
-
-// The unit without the j-th oldest record of a door: its row is free, and zeros.
-pub fn without_record(unit: LinkUnit, d: usize, after: Door, j: usize) -> LinkUnit
-    ensures { λ r. ⌜ r ≡ enactFit unit d after (remove j) ⌝ }
-{
-    let mut u = unit;
-    if DOORS <= d {
-        return u;
-    }
-    let position = u.doors[d];
-    let n = count_of(position);
-    if n <= j {
-        return u;
-    }
-    let numbers = position.rows;
-    let row = wide(numbers[j]);
-    let left = closed_up(numbers, j);
-    let count = (n - 1) as u8;
-    let next = Position {
-        door: after,
-        count,
-        rows: left,
-    };
-    u.doors[d] = next;
-    if ROWS <= row {
-        return u;
-    }
-    let zeros = door::no_session();
-    u.owners[row] = 0;
-    u.rows[row] = zeros;
-    u
-}
-
-// The unit after a call's effect; `added` is the record of a change that adds one.
+// The unit after a call's effect; `added` is the record of a change that adds one. The change is worked out on small values and stored at one
+// place, which saves copies of the unit.
 pub fn enacted(
     unit: LinkUnit,
     d: usize,
@@ -206,9 +109,28 @@ pub fn enacted(
 ) -> LinkUnit
     ensures { λ r. ⌜ r ≡ enactFit unit d after (effectOf change added) ⌝ }
 {
-    match change {
-        Change::Keep => with_door(unit, d, after),
-        Change::Add => with_record(unit, d, after, added),
-        Change::Remove(j) => without_record(unit, d, after, j),
+    let mut u = unit;
+    if DOORS <= d {
+        return u;
     }
+    let position = u.doors[d];
+    let free = first_free(&u.owners);
+    let owner = (d + 1) as u8;
+    let next = row_list::list_after(position, owner, change, free);
+    let session = row_list::session_after(change, added);
+    let row = next.row;
+    if row < ROWS {
+        u.owners[row] = next.owner;
+        u.rows[row] = session;
+    }
+    if next.fits {
+        let numbers = next.numbers;
+        let to = Position {
+            door: after,
+            count: next.count,
+            rows: numbers,
+        };
+        u.doors[d] = to;
+    }
+    u
 }

@@ -19,4 +19,3 @@ returns c = gives-frame _ _ _ (c .written-numbers .ensures) (c .before .before .
 pub door-link-header-write-spec : {M : Type 1} → statement M
 door-link-header-write-spec =
     tie.close (tie.spec write-header-requires written-numbers-requires same-length returns)
-

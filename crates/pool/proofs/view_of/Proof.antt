@@ -16,9 +16,9 @@ use Rattle.pool.proofs.view_of.Tie as tie
 use Rattle.pool.proofs.view_of.Reads as reads
 use Rattle.pool.proofs.view_of.Lts as lts
 use Rattle.door.proofs.idle_door.Reads as idle-door-reads
-use Rattle.pool.proofs.count_of.Reads as count-of-reads
+use Rattle.row_list.proofs.count_of.Reads as count-of-reads
 use Rattle.door.proofs.no_session.Reads as no-session-reads
-use Rattle.pool.proofs.wide.Reads as wide-reads
+use Rattle.row_list.proofs.wide.Reads as wide-reads
 
 abbrev Inv-loop : tie.InvT-loop
 Inv-loop d unit held₀ position n i₀ held i = (i ≤ n) × (held ≡ gathered (unit .rows) (position .rows) i)

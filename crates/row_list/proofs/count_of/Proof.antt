@@ -1,11 +1,11 @@
--- `pool::count_of` meets its contract.
+-- `row_list::count_of` meets its contract.
 use lib.ListN.{length-map}
 use Rattle.door.specs.Numbers.{eachN}
 use borrow.Author.Needs.{needs}
-use Rattle.pool.proofs.count_of.Statement.{statement}
-use Rattle.pool.proofs.count_of.Tie as tie
-use Rattle.pool.proofs.count_of.Reads as reads
-use Rattle.pool.proofs.count_of.Lts as lts
+use Rattle.row_list.proofs.count_of.Statement.{statement}
+use Rattle.row_list.proofs.count_of.Tie as tie
+use Rattle.row_list.proofs.count_of.Reads as reads
+use Rattle.row_list.proofs.count_of.Lts as lts
 use Rattle.door.proofs.listed_count.Reads as listed-count-reads
 
 listed-count-requires : tie.Need-listed-count-requires

@@ -1,15 +1,15 @@
--- `pool::closed_up` meets its contract.
+-- `row_list::closed_up` meets its contract.
 use borrow.Author.Needs.{needs}
 use mathlib.Core.Path.{_≡_, sym, ap, _∙_}
 use Prim.Native.Nat.{ℕ, _+_, _-_, _≤_}
 use native.Mathlib.Omega.{arith}
 use lib.ListN.{length, take, set, length-set}
 use Rattle.door.specs.Numbers.{eachN}
-use Rattle.pool.proofs.ClosingUp.{closed, closed-take, closed-more, closed-all}
-use Rattle.pool.proofs.closed_up.Statement.{statement}
-use Rattle.pool.proofs.closed_up.Tie as tie
-use Rattle.pool.proofs.closed_up.Reads as reads
-use Rattle.pool.proofs.closed_up.Lts as lts
+use Rattle.row_list.proofs.ClosingUp.{closed, closed-take, closed-more, closed-all}
+use Rattle.row_list.proofs.closed_up.Statement.{statement}
+use Rattle.row_list.proofs.closed_up.Tie as tie
+use Rattle.row_list.proofs.closed_up.Reads as reads
+use Rattle.row_list.proofs.closed_up.Lts as lts
 
 abbrev Inv-loop : tie.InvT-loop
 Inv-loop j numbers left₀ k₀ left k = (j ≤ k) × (k + 1 ≤ eachN) × (length left ≡ eachN) × (take k left ≡ take k (closed j numbers))

@@ -1,0 +1,3 @@
+-- Laws of a door's list of rows.
+pub mod ClosingUp
+pub mod Listings
