@@ -58,48 +58,57 @@ pub enum Expected {
     Word { name: Name, form: Form },
 }
 
+// The words of an offer.
+pub struct Offer {
+    pub door: usize,
+    pub b: u8,
+    pub aware: bool,
+    pub mandatory: bool,
+    pub teps: usize,
+    pub resume: bool,
+    pub nonce: usize,
+    pub room: usize,
+}
+
+pub struct Answer {
+    pub door: usize,
+    pub area: usize,
+    pub aware: bool,
+    pub mandatory: bool,
+    pub teps: usize,
+    pub nonce: usize,
+    pub room: usize,
+}
+
+pub struct Receive {
+    pub door: usize,
+    pub syn: bool,
+    pub ack: bool,
+    pub area: usize,
+}
+
+pub struct Store {
+    pub door: usize,
+    pub tep: u8,
+    pub role: u8,
+    pub identifier: usize,
+    pub secret: usize,
+}
+
+pub struct Forget {
+    pub door: usize,
+    pub tep: u8,
+    pub identifier: usize,
+}
+
 // A call that may change the unit.
 pub enum Ask {
-    Offer {
-        door: usize,
-        b: u8,
-        aware: bool,
-        mandatory: bool,
-        teps: usize,
-        resume: bool,
-        nonce: usize,
-        room: usize,
-    },
-    Answer {
-        door: usize,
-        area: usize,
-        aware: bool,
-        mandatory: bool,
-        teps: usize,
-        nonce: usize,
-        room: usize,
-    },
-    Receive {
-        door: usize,
-        syn: bool,
-        ack: bool,
-        area: usize,
-    },
-    Close {
-        door: usize,
-    },
-    Store {
-        door: usize,
-        tep: u8,
-        role: u8,
-        identifier: usize,
-        secret: usize,
-    },
-    Forget {
-        door: usize,
-        tep: u8,
-        identifier: usize,
-    },
+    Offer(Offer),
+    Answer(Answer),
+    Receive(Receive),
+    Close(usize),
+    Store(Store),
+    Forget(Forget),
     Erase,
 }
 

@@ -16,13 +16,15 @@ mod unit_lines;
 mod unit_replies;
 mod words;
 
+use command::Ask;
 use command::Command;
 
 // A reading loop has to end: no input reaches this many turns.
 const TURNS: u64 = 0x8000_0000_0000_0000;
 
 // Runs the input to its end. A line's bytes go to first, second and third in the order of its words, its lent buffer to lent; the reply is made in out.
-// The unit and the generation record that is lent stand here; only the unit's calls take the unit.
+// The unit and the generation record that is lent stand here; only the unit's calls take the unit. Each that may change it has an arm of its own here: where the arms end in
+// one value, the compiler copies the unit once more.
 fn run(
     chunk: &mut [u8],
     line: &mut [u8],
@@ -52,10 +54,29 @@ fn run(
                 Command::Unfit(expected) => {
                     unfit::unfit(out, number, expected);
                 }
-                Command::Unit(ask) => {
-                    let after = unit_calls::call(unit, ask, first, second, third, lent, out);
-                    unit = after;
-                }
+                Command::Unit(ask) => match ask {
+                    Ask::Offer(words) => {
+                        unit = unit_calls::offer(unit, words, first, second, lent, out);
+                    }
+                    Ask::Answer(words) => {
+                        unit = unit_calls::answer(unit, words, first, second, third, lent, out);
+                    }
+                    Ask::Receive(words) => {
+                        unit = unit_calls::receive(unit, words, first, out);
+                    }
+                    Ask::Close(door) => {
+                        unit = unit_calls::close(unit, door, out);
+                    }
+                    Ask::Store(words) => {
+                        unit = unit_calls::store(unit, words, first, second, out);
+                    }
+                    Ask::Forget(words) => {
+                        unit = unit_calls::forget(unit, words, first, out);
+                    }
+                    Ask::Erase => {
+                        unit = unit_calls::erase(unit, out);
+                    }
+                },
                 Command::Look(look) => {
                     unit_calls::look(unit, look, lent, out);
                 }

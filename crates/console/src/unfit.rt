@@ -6,6 +6,29 @@ use crate::text::finish;
 use crate::text::put;
 use crate::text::put_counted;
 
+// The words of the lines without the unit; put_name has the others.
+fn put_message_name(out: &mut [u8], at: usize, name: Name) -> usize {
+    match name {
+        Name::Cipher => put(out, at, b"CIPHER"),
+        Name::Ciphers => put(out, at, b"CIPHERS"),
+        Name::Enabled => put(out, at, b"ENABLED"),
+        Name::Key => put(out, at, b"KEY"),
+        Name::Bytes => put(out, at, b"BYTES"),
+        Name::Rekey => put(out, at, b"REKEY"),
+        Name::Length => put(out, at, b"LENGTH"),
+        Name::Offset => put(out, at, b"OFFSET"),
+        Name::Fixed => put(out, at, b"FIXED"),
+        Name::Fin => put(out, at, b"FIN"),
+        Name::Urg => put(out, at, b"URG"),
+        Name::Urgent => put(out, at, b"URGENT"),
+        Name::Data => put(out, at, b"DATA"),
+        Name::Local => put(out, at, b"LOCAL"),
+        Name::Remote => put(out, at, b"REMOTE"),
+        Name::Last => put(out, at, b"LAST"),
+        _ => at,
+    }
+}
+
 fn put_name(out: &mut [u8], at: usize, name: Name) -> usize {
     match name {
         Name::Door => put(out, at, b"DOOR"),
@@ -23,22 +46,7 @@ fn put_name(out: &mut [u8], at: usize, name: Name) -> usize {
         Name::Identifier => put(out, at, b"IDENTIFIER"),
         Name::Secret => put(out, at, b"SECRET"),
         Name::Buf => put(out, at, b"BUF"),
-        Name::Cipher => put(out, at, b"CIPHER"),
-        Name::Ciphers => put(out, at, b"CIPHERS"),
-        Name::Enabled => put(out, at, b"ENABLED"),
-        Name::Key => put(out, at, b"KEY"),
-        Name::Bytes => put(out, at, b"BYTES"),
-        Name::Rekey => put(out, at, b"REKEY"),
-        Name::Length => put(out, at, b"LENGTH"),
-        Name::Offset => put(out, at, b"OFFSET"),
-        Name::Fixed => put(out, at, b"FIXED"),
-        Name::Fin => put(out, at, b"FIN"),
-        Name::Urg => put(out, at, b"URG"),
-        Name::Urgent => put(out, at, b"URGENT"),
-        Name::Data => put(out, at, b"DATA"),
-        Name::Local => put(out, at, b"LOCAL"),
-        Name::Remote => put(out, at, b"REMOTE"),
-        Name::Last => put(out, at, b"LAST"),
+        _ => put_message_name(out, at, name),
     }
 }
 

@@ -1,8 +1,13 @@
 // The lines that make a call on the unit: their words, in order.
+use crate::command::Answer;
 use crate::command::Ask;
 use crate::command::Command;
+use crate::command::Forget;
 use crate::command::Look;
 use crate::command::Name;
+use crate::command::Offer;
+use crate::command::Receive;
+use crate::command::Store;
 use crate::cursor::Cursor;
 use crate::cursor::bytes;
 use crate::cursor::ended;
@@ -26,7 +31,7 @@ pub fn offer(
     let resume = flag(line, teps.next, Name::Resume);
     let nonce = bytes(line, resume.next, Name::Nonce, second);
     let room = bytes(line, nonce.next, Name::Buf, lent);
-    let ask = Ask::Offer {
+    let words = Offer {
         door: door.value as usize,
         b: b.value,
         aware: aware.value,
@@ -36,7 +41,7 @@ pub fn offer(
         nonce: nonce.length,
         room: room.length,
     };
-    ended(line, room.next, Command::Unit(ask))
+    ended(line, room.next, Command::Unit(Ask::Offer(words)))
 }
 
 // The words of an answer after its area.
@@ -54,7 +59,7 @@ fn answer_to(
     let teps = bytes(line, mandatory.next, Name::Teps, second);
     let nonce = bytes(line, teps.next, Name::Nonce, third);
     let room = bytes(line, nonce.next, Name::Buf, lent);
-    let ask = Ask::Answer {
+    let words = Answer {
         door,
         area,
         aware: aware.value,
@@ -63,7 +68,7 @@ fn answer_to(
         nonce: nonce.length,
         room: room.length,
     };
-    ended(line, room.next, Command::Unit(ask))
+    ended(line, room.next, Command::Unit(Ask::Answer(words)))
 }
 
 pub fn answer(
@@ -92,13 +97,13 @@ pub fn receive(line: &[u8], at: Cursor, first: &mut [u8]) -> Command {
     let syn = flag(line, door.next, Name::Syn);
     let ack = flag(line, syn.next, Name::Ack);
     let area = bytes(line, ack.next, Name::Area, first);
-    let ask = Ask::Receive {
+    let words = Receive {
         door: door.value as usize,
         syn: syn.value,
         ack: ack.value,
         area: area.length,
     };
-    ended(line, area.next, Command::Unit(ask))
+    ended(line, area.next, Command::Unit(Ask::Receive(words)))
 }
 
 pub fn resend(line: &[u8], at: Cursor, lent: &mut [u8]) -> Command {
@@ -123,10 +128,11 @@ pub fn result(line: &[u8], at: Cursor, lent: &mut [u8]) -> Command {
 
 pub fn close(line: &[u8], at: Cursor) -> Command {
     let door = number(line, at, Name::Door);
-    let ask = Ask::Close {
-        door: door.value as usize,
-    };
-    ended(line, door.next, Command::Unit(ask))
+    ended(
+        line,
+        door.next,
+        Command::Unit(Ask::Close(door.value as usize)),
+    )
 }
 
 pub fn store(line: &[u8], at: Cursor, first: &mut [u8], second: &mut [u8]) -> Command {
@@ -135,26 +141,26 @@ pub fn store(line: &[u8], at: Cursor, first: &mut [u8], second: &mut [u8]) -> Co
     let role = small(line, tep.next, Name::Role);
     let identifier = bytes(line, role.next, Name::Identifier, first);
     let secret = bytes(line, identifier.next, Name::Secret, second);
-    let ask = Ask::Store {
+    let words = Store {
         door: door.value as usize,
         tep: tep.value,
         role: role.value,
         identifier: identifier.length,
         secret: secret.length,
     };
-    ended(line, secret.next, Command::Unit(ask))
+    ended(line, secret.next, Command::Unit(Ask::Store(words)))
 }
 
 pub fn forget(line: &[u8], at: Cursor, first: &mut [u8]) -> Command {
     let door = number(line, at, Name::Door);
     let tep = octet(line, door.next, Name::Tep);
     let identifier = bytes(line, tep.next, Name::Identifier, first);
-    let ask = Ask::Forget {
+    let words = Forget {
         door: door.value as usize,
         tep: tep.value,
         identifier: identifier.length,
     };
-    ended(line, identifier.next, Command::Unit(ask))
+    ended(line, identifier.next, Command::Unit(Ask::Forget(words)))
 }
 
 pub fn count(line: &[u8], at: Cursor) -> Command {

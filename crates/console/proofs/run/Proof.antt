@@ -127,15 +127,18 @@ loop-again-2 c =
 enum-known-asked-2 : tie.Need-enum-known-asked-2 Inv-loop μ-loop
 enum-known-asked-2 c = search needs
 
-call-requires : tie.Need-call-requires Inv-loop μ-loop
-call-requires c κs = search needs
+enum-known-ask : tie.Need-enum-known-ask Inv-loop μ-loop
+enum-known-ask c = search needs
+
+offer-requires : tie.Need-offer-requires Inv-loop μ-loop
+offer-requires c κs = search needs
 
 loop-less-3 : tie.Need-loop-less-3 Inv-loop μ-loop
-loop-less-3 c = omega (arith, (turn-at (c .before .before .before .before .before .before .before .before .before .before .before .before .before)) .loop-test .taken)
+loop-less-3 c = omega (arith, (turn-at (c .before .before .before .before .before .before .before .before .before .before .before .before .before .before .before)) .loop-test .taken)
 
 loop-again-3 : tie.Need-loop-again-3 Inv-loop μ-loop
 loop-again-3 c =
-    let m = c .before .before .before .before .before .before .before .before .before .before .before .before .before in
+    let m = c .before .before .before .before .before .before .before .before .before .before .before .before .before .before .before in
     let inv = (loop-at m) .loop .inv in (
       omega (arith, (chunk-at m) .chunk .given, inv .0),
       omega (arith, (line-at m) .line .given, inv .1),
@@ -146,18 +149,18 @@ loop-again-3 c =
       omega (arith, c .before .out2 .given, inv .6),
     )
 
-enum-known-asked-3 : tie.Need-enum-known-asked-3 Inv-loop μ-loop
-enum-known-asked-3 c = search needs
+enum-known-ask-2 : tie.Need-enum-known-ask-2 Inv-loop μ-loop
+enum-known-ask-2 c = search needs
 
-look-requires : tie.Need-look-requires Inv-loop μ-loop
-look-requires c κs = search needs
+answer-requires : tie.Need-answer-requires Inv-loop μ-loop
+answer-requires c κs = search needs
 
 loop-less-4 : tie.Need-loop-less-4 Inv-loop μ-loop
-loop-less-4 c = omega (arith, (turn-at (c .before .before .before .before .before .before .before .before .before .before)) .loop-test .taken)
+loop-less-4 c = omega (arith, (turn-at (c .before .before .before .before .before .before .before .before .before .before .before .before .before .before .before .before)) .loop-test .taken)
 
 loop-again-4 : tie.Need-loop-again-4 Inv-loop μ-loop
 loop-again-4 c =
-    let m = c .before .before .before .before .before .before .before .before .before .before in
+    let m = c .before .before .before .before .before .before .before .before .before .before .before .before .before .before .before .before in
     let inv = (loop-at m) .loop .inv in (
       omega (arith, (chunk-at m) .chunk .given, inv .0),
       omega (arith, (line-at m) .line .given, inv .1),
@@ -168,40 +171,40 @@ loop-again-4 c =
       omega (arith, c .before .out3 .given, inv .6),
     )
 
-enum-known-asked-4 : tie.Need-enum-known-asked-4 Inv-loop μ-loop
-enum-known-asked-4 c = search needs
+enum-known-ask-3 : tie.Need-enum-known-ask-3 Inv-loop μ-loop
+enum-known-ask-3 c = search needs
 
-call-requires-2 : tie.Need-call-requires-2 Inv-loop μ-loop
-call-requires-2 c κs = search needs
+receive-requires : tie.Need-receive-requires Inv-loop μ-loop
+receive-requires c κs = search needs
 
 loop-less-5 : tie.Need-loop-less-5 Inv-loop μ-loop
-loop-less-5 c = omega (arith, (turn-at (c .before .before .before .before .before .before .before .before .before .before .before .before .before)) .loop-test .taken)
+loop-less-5 c = omega (arith, (turn-at (c .before .before .before .before .before .before .before .before .before .before .before)) .loop-test .taken)
 
 loop-again-5 : tie.Need-loop-again-5 Inv-loop μ-loop
 loop-again-5 c =
-    let m = c .before .before .before .before .before .before .before .before .before .before .before .before .before in
+    let m = c .before .before .before .before .before .before .before .before .before .before .before in
     let inv = (loop-at m) .loop .inv in (
       omega (arith, (chunk-at m) .chunk .given, inv .0),
       omega (arith, (line-at m) .line .given, inv .1),
       omega (arith, (first-at m) .first .given, inv .2),
       omega (arith, (second-at m) .second .given, inv .3),
       omega (arith, (third-at m) .third .given, inv .4),
-      omega (arith, (lent-at m) .lent .given, c .before .before .before .lent4 .given, inv .5),
+      omega (arith, (lent-at m) .lent .given, inv .5),
       omega (arith, c .before .out4 .given, inv .6),
     )
 
-enum-known-asked-5 : tie.Need-enum-known-asked-5 Inv-loop μ-loop
-enum-known-asked-5 c = search needs
+enum-known-ask-4 : tie.Need-enum-known-ask-4 Inv-loop μ-loop
+enum-known-ask-4 c = search needs
 
-call-requires-3 : tie.Need-call-requires-3 Inv-loop μ-loop
-call-requires-3 c κs = search needs
+close-requires : tie.Need-close-requires Inv-loop μ-loop
+close-requires c κs = search needs
 
 loop-less-6 : tie.Need-loop-less-6 Inv-loop μ-loop
-loop-less-6 c = omega (arith, (turn-at (c .before .before .before .before .before .before .before)) .loop-test .taken)
+loop-less-6 c = omega (arith, (turn-at (c .before .before .before .before .before .before .before .before .before .before)) .loop-test .taken)
 
 loop-again-6 : tie.Need-loop-again-6 Inv-loop μ-loop
 loop-again-6 c =
-    let m = c .before .before .before .before .before .before .before in
+    let m = c .before .before .before .before .before .before .before .before .before .before in
     let inv = (loop-at m) .loop .inv in (
       omega (arith, (chunk-at m) .chunk .given, inv .0),
       omega (arith, (line-at m) .line .given, inv .1),
@@ -212,11 +215,143 @@ loop-again-6 c =
       omega (arith, c .before .out5 .given, inv .6),
     )
 
+enum-known-ask-5 : tie.Need-enum-known-ask-5 Inv-loop μ-loop
+enum-known-ask-5 c = search needs
+
+store-requires : tie.Need-store-requires Inv-loop μ-loop
+store-requires c κs = search needs
+
 loop-less-7 : tie.Need-loop-less-7 Inv-loop μ-loop
-loop-less-7 c = search needs
+loop-less-7 c = omega (arith, (turn-at (c .before .before .before .before .before .before .before .before .before .before .before .before)) .loop-test .taken)
 
 loop-again-7 : tie.Need-loop-again-7 Inv-loop μ-loop
-loop-again-7 c = search needs
+loop-again-7 c =
+    let m = c .before .before .before .before .before .before .before .before .before .before .before .before in
+    let inv = (loop-at m) .loop .inv in (
+      omega (arith, (chunk-at m) .chunk .given, inv .0),
+      omega (arith, (line-at m) .line .given, inv .1),
+      omega (arith, (first-at m) .first .given, inv .2),
+      omega (arith, (second-at m) .second .given, inv .3),
+      omega (arith, (third-at m) .third .given, inv .4),
+      omega (arith, (lent-at m) .lent .given, inv .5),
+      omega (arith, c .before .out6 .given, inv .6),
+    )
+
+enum-known-ask-6 : tie.Need-enum-known-ask-6 Inv-loop μ-loop
+enum-known-ask-6 c = search needs
+
+forget-requires : tie.Need-forget-requires Inv-loop μ-loop
+forget-requires c κs = search needs
+
+loop-less-8 : tie.Need-loop-less-8 Inv-loop μ-loop
+loop-less-8 c = omega (arith, (turn-at (c .before .before .before .before .before .before .before .before .before .before .before)) .loop-test .taken)
+
+loop-again-8 : tie.Need-loop-again-8 Inv-loop μ-loop
+loop-again-8 c =
+    let m = c .before .before .before .before .before .before .before .before .before .before .before in
+    let inv = (loop-at m) .loop .inv in (
+      omega (arith, (chunk-at m) .chunk .given, inv .0),
+      omega (arith, (line-at m) .line .given, inv .1),
+      omega (arith, (first-at m) .first .given, inv .2),
+      omega (arith, (second-at m) .second .given, inv .3),
+      omega (arith, (third-at m) .third .given, inv .4),
+      omega (arith, (lent-at m) .lent .given, inv .5),
+      omega (arith, c .before .out7 .given, inv .6),
+    )
+
+enum-told-2 : tie.Need-enum-told-2 Inv-loop μ-loop
+enum-told-2 c = search needs
+
+erase-requires : tie.Need-erase-requires Inv-loop μ-loop
+erase-requires c κs = search needs
+
+loop-less-9 : tie.Need-loop-less-9 Inv-loop μ-loop
+loop-less-9 c = omega (arith, (turn-at (c .before .before .before .before .before .before .before .before .before)) .loop-test .taken)
+
+loop-again-9 : tie.Need-loop-again-9 Inv-loop μ-loop
+loop-again-9 c =
+    let m = c .before .before .before .before .before .before .before .before .before in
+    let inv = (loop-at m) .loop .inv in (
+      omega (arith, (chunk-at m) .chunk .given, inv .0),
+      omega (arith, (line-at m) .line .given, inv .1),
+      omega (arith, (first-at m) .first .given, inv .2),
+      omega (arith, (second-at m) .second .given, inv .3),
+      omega (arith, (third-at m) .third .given, inv .4),
+      omega (arith, (lent-at m) .lent .given, inv .5),
+      omega (arith, c .before .out8 .given, inv .6),
+    )
+
+enum-known-asked-3 : tie.Need-enum-known-asked-3 Inv-loop μ-loop
+enum-known-asked-3 c = search needs
+
+look-requires : tie.Need-look-requires Inv-loop μ-loop
+look-requires c κs = search needs
+
+loop-less-10 : tie.Need-loop-less-10 Inv-loop μ-loop
+loop-less-10 c = omega (arith, (turn-at (c .before .before .before .before .before .before .before .before .before .before)) .loop-test .taken)
+
+loop-again-10 : tie.Need-loop-again-10 Inv-loop μ-loop
+loop-again-10 c =
+    let m = c .before .before .before .before .before .before .before .before .before .before in
+    let inv = (loop-at m) .loop .inv in (
+      omega (arith, (chunk-at m) .chunk .given, inv .0),
+      omega (arith, (line-at m) .line .given, inv .1),
+      omega (arith, (first-at m) .first .given, inv .2),
+      omega (arith, (second-at m) .second .given, inv .3),
+      omega (arith, (third-at m) .third .given, inv .4),
+      omega (arith, (lent-at m) .lent .given, c .before .before .before .lent4 .given, inv .5),
+      omega (arith, c .before .out9 .given, inv .6),
+    )
+
+enum-known-asked-4 : tie.Need-enum-known-asked-4 Inv-loop μ-loop
+enum-known-asked-4 c = search needs
+
+call-requires : tie.Need-call-requires Inv-loop μ-loop
+call-requires c κs = search needs
+
+loop-less-11 : tie.Need-loop-less-11 Inv-loop μ-loop
+loop-less-11 c = omega (arith, (turn-at (c .before .before .before .before .before .before .before .before .before .before .before .before .before)) .loop-test .taken)
+
+loop-again-11 : tie.Need-loop-again-11 Inv-loop μ-loop
+loop-again-11 c =
+    let m = c .before .before .before .before .before .before .before .before .before .before .before .before .before in
+    let inv = (loop-at m) .loop .inv in (
+      omega (arith, (chunk-at m) .chunk .given, inv .0),
+      omega (arith, (line-at m) .line .given, inv .1),
+      omega (arith, (first-at m) .first .given, inv .2),
+      omega (arith, (second-at m) .second .given, inv .3),
+      omega (arith, (third-at m) .third .given, inv .4),
+      omega (arith, (lent-at m) .lent .given, c .before .before .before .lent5 .given, inv .5),
+      omega (arith, c .before .out10 .given, inv .6),
+    )
+
+enum-known-asked-5 : tie.Need-enum-known-asked-5 Inv-loop μ-loop
+enum-known-asked-5 c = search needs
+
+call-requires-2 : tie.Need-call-requires-2 Inv-loop μ-loop
+call-requires-2 c κs = search needs
+
+loop-less-12 : tie.Need-loop-less-12 Inv-loop μ-loop
+loop-less-12 c = omega (arith, (turn-at (c .before .before .before .before .before .before .before)) .loop-test .taken)
+
+loop-again-12 : tie.Need-loop-again-12 Inv-loop μ-loop
+loop-again-12 c =
+    let m = c .before .before .before .before .before .before .before in
+    let inv = (loop-at m) .loop .inv in (
+      omega (arith, (chunk-at m) .chunk .given, inv .0),
+      omega (arith, (line-at m) .line .given, inv .1),
+      omega (arith, (first-at m) .first .given, inv .2),
+      omega (arith, (second-at m) .second .given, inv .3),
+      omega (arith, (third-at m) .third .given, inv .4),
+      omega (arith, (lent-at m) .lent .given, inv .5),
+      omega (arith, c .before .out11 .given, inv .6),
+    )
+
+loop-less-13 : tie.Need-loop-less-13 Inv-loop μ-loop
+loop-less-13 c = search needs
+
+loop-again-13 : tie.Need-loop-again-13 Inv-loop μ-loop
+loop-again-13 c = search needs
 
 same-length-8 : tie.Need-same-length-8 Inv-loop μ-loop
 same-length-8 c = search needs
@@ -273,23 +408,48 @@ run-spec =
     loop-less-2
     loop-again-2
     enum-known-asked-2
-    call-requires
+    enum-known-ask
+    offer-requires
     loop-less-3
     loop-again-3
-    enum-known-asked-3
-    look-requires
+    enum-known-ask-2
+    answer-requires
     loop-less-4
     loop-again-4
-    enum-known-asked-4
-    call-requires-2
+    enum-known-ask-3
+    receive-requires
     loop-less-5
     loop-again-5
-    enum-known-asked-5
-    call-requires-3
+    enum-known-ask-4
+    close-requires
     loop-less-6
     loop-again-6
+    enum-known-ask-5
+    store-requires
     loop-less-7
     loop-again-7
+    enum-known-ask-6
+    forget-requires
+    loop-less-8
+    loop-again-8
+    enum-told-2
+    erase-requires
+    loop-less-9
+    loop-again-9
+    enum-known-asked-3
+    look-requires
+    loop-less-10
+    loop-again-10
+    enum-known-asked-4
+    call-requires
+    loop-less-11
+    loop-again-11
+    enum-known-asked-5
+    call-requires-2
+    loop-less-12
+    loop-again-12
+    loop-less-13
+    loop-again-13
     same-length-8
     same-length-9
     same-length-10
