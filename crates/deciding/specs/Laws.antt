@@ -14,7 +14,7 @@ use Rattle.eno.specs.Walk.{Reading, readable, faulty, listed}
 use Rattle.eno.specs.Suboption.{suboptions, isIllFormed, awareBit, globalByte}
 use Rattle.eno.specs.Judge.{isUnreadable, isMissing, roleOf, awareOf, tepsOf}
 use Rattle.eno.specs.Option.{isTepList}
-use Rattle.eno.specs.Laws.Found.{found-option}
+use Rattle.eno.specs.Laws.Found.{found-option, found-short}
 use Rattle.suboptions.specs.Summary.{entriesOf, summaryOf}
 use Rattle.suboptions.specs.Laws.{saying, summary-says}
 use Rattle.suboptions.specs.declared.Summary.{Summary}
@@ -81,6 +81,10 @@ module _ (v : Seen) (mandatory : Bool) (area list : List ℕ) (short : length ar
           let two = h .two in
           absurd (omega arith)
 
+  within : length o ≤ 255
+  unfolding synOption
+  within = let h = found-short area true o is in omega arith
+
   module _ (some-bytes : length o ≡ 0 → ⊥) where
     record Found : Type 0 where
       pub not-unreadable : isUnreadable (finding area true) ≡ false
@@ -112,7 +116,7 @@ module _ (v : Seen) (mandatory : Bool) (area list : List ℕ) (short : length ar
     summed-is : isTepList list ≡ true → summedUp mandatory o list (v .held) (summaryOf o) ≡ A
     unfolding summedUp
     summed-is teps =
-        ap (summedUp mandatory o list (v .held)) (summary-says o)
+        ap (summedUp mandatory o list (v .held)) (summary-says o within)
         ∙ (ap₂ (λ u x. cond (isIllFormed (suboptions o)) (plainFor 3) (cond (eqb (roleOf o) 1) (plainFor 4) (cond (mandatory && u) (plainFor 5) x)))
         (sym (aware-or-not o)) (chosen-is o (v .held) list (tep-list list teps))
         ∙ sym after-found)

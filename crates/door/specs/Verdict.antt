@@ -12,7 +12,7 @@ use lib.Dec.{ltb, leb, eqb}
 use lib.ListN.{length, getD, take, replicate}
 use lib.Seq.{take-at}
 use Rattle.wire.specs.Bytes.{pasted}
-use Rattle.eno.specs.Area.{Finding, refused, unreadable, missing, found, finding, partOf, synOption}
+use Rattle.eno.specs.Area.{synOption}
 use Rattle.eno.specs.Session.{inHand}
 use Rattle.eno.specs.Judge as judged
 use Rattle.eno.specs.Judge.{Way, wayIf, isResumed, ofA, ofB, Negotiated, agreed, negotiate, firstOf, Judged, encrypt, tooLong, roleOf, judge}
@@ -20,7 +20,7 @@ use Rattle.eno.specs.Option.{optionWith, isListed, isTepList, recordListed, off
 use Rattle.eno.specs.ReadBack.{option-alone}
 use Rattle.eno.specs.Laws.Walk.{Every}
 use Rattle.eno.specs.Laws.Asked.{and-true, IsTep, listed-tep, offer-may-be-asked}
-use Rattle.eno.specs.Laws.Found.{found-option}
+use Rattle.eno.specs.Laws.Found.{found-short}
 use Rattle.eno.specs.declared.SessionRecord.{SessionRecord}
 use Rattle.door.specs.Door.{Phase, offering, crossed, answering, opened, unencrypted, phaseOf, kept, ownOption, peerOption, transcriptOf, noSession, emptyHand, idleDoor}
 use Rattle.door.specs.Record.{firstThat, pastEnd, recordAt}
@@ -177,19 +177,8 @@ module _ (b : ℕ) (aware mandatory : Bool) (list : List ℕ) (resume : Bool) (n
 
 -- the option of an area has at most 40 bytes
 pub option-at-most : (s : List ℕ) → length (synOption s) ≤ 40
-unfolding synOption partOf
-option-at-most s = go (finding s true) refl
-  where
-    go : (f : Finding) → finding s true ≡ f → length (partOf s f) ≤ 40
-    go refused q = omega arith
-    go (unreadable x) q = omega arith
-    go missing q = omega arith
-    go (found i n) q =
-        let h = found-option s true i n q in
-        let w = h .long in
-        let v = h .within in
-        let u = h .short in
-        omega arith
+unfolding synOption
+option-at-most s = found-short s true _ refl
 
 -- what the judge says where it says encrypt: the transcript is A's option followed by B's
 module _ (role byte : ℕ) (way : Way) (t : List ℕ) where

@@ -1,14 +1,11 @@
 -- Laws of a kept option: it is kept whole, and its bytes that count are read back.
 use Prim.Native.Nat.{ℕ, _-_, _≤_, min}
-use mathlib.Core.Path.{_≡_, refl, _∙_, ap}
+use mathlib.Core.Path.{_≡_, _∙_, ap}
 use mathlib.Core.List.{List}
-use mathlib.Core.Bool.{true}
 use native.Mathlib.Omega.{arith}
 use borrow.Author.Tests.{le-leb}
 use lib.Dec.{leb}
 use lib.ListN.{length, take, drop}
-use Rattle.eno.specs.Area.{Finding, refused, unreadable, missing, found, finding, partOf, synOption}
-use Rattle.eno.specs.Laws.Found.{found-option}
 use Rattle.door.specs.Door.{kept, ownOption, peerOption}
 use Rattle.door.specs.declared.Door.{Door}
 use Rattle.door_data.specs.Kept.{keptOption}
@@ -17,23 +14,6 @@ use Rattle.door_data.specs.Kept.{keptOption}
 pub kept-whole : (o : List ℕ) → length o ≤ 40 → keptOption o ≡ kept o
 unfolding keptOption
 kept-whole o h = simp (le-leb _ _ h)
-
--- and so is one that is found
-pub found-short : (s o : List ℕ) → o ≡ synOption s → length o ≤ 40
-unfolding synOption partOf
-found-short s o e = go (finding s true) refl
-  where
-    go : (f : Finding) → finding s true ≡ f → length o ≤ 40
-    go refused q = let l = ap length (e ∙ ap (partOf s) q) in omega arith
-    go (unreadable x) q = let l = ap length (e ∙ ap (partOf s) q) in omega arith
-    go missing q = let l = ap length (e ∙ ap (partOf s) q) in omega arith
-    go (found i n) q =
-        let h = found-option s true i n q in
-        let l = ap length (e ∙ ap (partOf s) q) in
-        let w = h .long in
-        let v = h .within in
-        let u = h .short in
-        omega arith
 
 -- the bytes of a stored option that count
 stored : (l n : ℕ) (s : List ℕ) → n ≡ min l 40 → take (n - 0) (drop 0 s) ≡ take (min l 40) s

@@ -13,7 +13,7 @@ use Rattle.eno.specs.Area.{Placed, Fault, Finding, refused, unreadable, missing
 use Rattle.eno.specs.Walk.{Reading, readable, faulty, listed}
 use Rattle.eno.specs.Suboption.{suboptions, isIllFormed, awareBit, globalByte}
 use Rattle.eno.specs.Judge.{ofA, ofB, Judged, refuse, plain, encrypt, negotiate, firstOf, isUnreadable, isMissing, tooLong, roleOf, awareOf, tepsOf, judge}
-use Rattle.eno.specs.Laws.Found.{found-option}
+use Rattle.eno.specs.Laws.Found.{found-option, found-short}
 use Rattle.eno.specs.declared.SessionRecord.{SessionRecord}
 use Rattle.suboptions.specs.Summary.{entriesOf, summaryOf}
 use Rattle.suboptions.specs.Laws.{saying, summary-says}
@@ -108,22 +108,6 @@ module _ (s o : List ℕ) (e : o ≡ partOf s (finding s true)) where
       go (found i n) q =
           record { not-long = long-refused s ∙ ap isRefused q; not-unreadable = ap isUnreadable q; not-missing = ap isMissing q }
 
-  pub is-short : (length o ≡ 0 → ⊥) → length o ≤ 40
-  unfolding partOf
-  is-short z = go (finding s true) refl
-    where
-      go : (f : Finding) → finding s true ≡ f → length o ≤ 40
-      go refused q = absurd (z (ap length (e ∙ ap (partOf s) q)))
-      go (unreadable x) q = absurd (z (ap length (e ∙ ap (partOf s) q)))
-      go missing q = absurd (z (ap length (e ∙ ap (partOf s) q)))
-      go (found i n) q =
-          let h = found-option s true i n q in
-          let l = ap length (e ∙ ap (partOf s) q) in
-          let w = h .long in
-          let v = h .within in
-          let u = h .short in
-          omega arith
-
 -- bit a is 0 or 1
 aware-or-not : (o : List ℕ) → eqb (awareOf o) 0 ≡ not (eqb (awareOf o) 1)
 unfolding awareOf awareBit
@@ -186,6 +170,12 @@ module _ (mandatory : Bool) (hand : Option SessionRecord) (ownArea peerArea : Li
     pub judge-missed-peer : length peer ≡ 0 → (r : Judgement) → r ≡ notFound ownArea peerArea → Judges J r
     judge-missed-peer z r e = rw e (not-both (or-right (isRefused f) (isUnreadable f) (isMissing f) (isRefused g) (isUnreadable g) (isMissing g) (missed peerArea peer ep z)))
 
+    within-own : length own ≤ 255
+    within-own = let h = found-short ownArea true own eo in omega arith
+
+    within-peer : length peer ≤ 255
+    within-peer = let h = found-short peerArea true peer ep in omega arith
+
     module _ (no : length own ≡ 0 → ⊥) (np : length peer ≡ 0 → ⊥) where
       -- both options found
       after-found : J ≡ cond (isIllFormed (suboptions own) || isIllFormed (suboptions peer)) (plain 3)
@@ -200,19 +190,19 @@ module _ (mandatory : Bool) (hand : Option SessionRecord) (ownArea peerArea : Li
 
       module _ (s p : Summary) (es : s ≡ summaryOf own) (et : p ≡ summaryOf peer) where
         ill-own : isIllFormed (suboptions own) ≡ s .«ill_formed»
-        ill-own = sym (ap (λ (x : Summary). x .«ill_formed») (es ∙ summary-says own))
+        ill-own = sym (ap (λ (x : Summary). x .«ill_formed») (es ∙ summary-says own within-own))
 
         ill-peer : isIllFormed (suboptions peer) ≡ p .«ill_formed»
-        ill-peer = sym (ap (λ (x : Summary). x .«ill_formed») (et ∙ summary-says peer))
+        ill-peer = sym (ap (λ (x : Summary). x .«ill_formed») (et ∙ summary-says peer within-peer))
 
         role-own : roleOf own ≡ s .role
-        role-own = sym (ap (λ (x : Summary). x .role) (es ∙ summary-says own))
+        role-own = sym (ap (λ (x : Summary). x .role) (es ∙ summary-says own within-own))
 
         role-peer : roleOf peer ≡ p .role
-        role-peer = sym (ap (λ (x : Summary). x .role) (et ∙ summary-says peer))
+        role-peer = sym (ap (λ (x : Summary). x .role) (et ∙ summary-says peer within-peer))
 
         unaware-peer : eqb (awareOf peer) 0 ≡ not (p .aware)
-        unaware-peer = aware-or-not peer ∙ ap not (sym (ap (λ (x : Summary). x .aware) (et ∙ summary-says peer)))
+        unaware-peer = aware-or-not peer ∙ ap not (sym (ap (λ (x : Summary). x .aware) (et ∙ summary-says peer within-peer)))
 
         -- the tests in the summaries' terms
         by-summaries : J ≡ cond (s .«ill_formed» || p .«ill_formed») (plain 3)
@@ -248,7 +238,7 @@ module _ (mandatory : Bool) (hand : Option SessionRecord) (ownArea peerArea : Li
                   let j : J ≡ negotiate (roleOf own) (sides hand own peer (eqb (roleOf own) 1)) = by-summaries ∙ simp (well, well′, ne-eqb _ _ differ, ← is, i) in
                   let n : r ≡ negotiated own peer hand (saying (isIllFormed (suboptions own)) (roleOf own) (eqb (awareOf own) 1) (entriesOf (tepsOf own)))
                   (saying (isIllFormed (suboptions peer)) (roleOf peer) (eqb (awareOf peer) 1) (entriesOf (tepsOf peer))) =
-                  w ∙ ap₂ (negotiated own peer hand) (es ∙ summary-says own) (et ∙ summary-says peer) in
+                  w ∙ ap₂ (negotiated own peer hand) (es ∙ summary-says own within-own) (et ∙ summary-says peer within-peer) in
                   rw (j, n) (conclusion hand own peer (eqb (roleOf own) 1) (roleOf own))
 
 -- what `negotiate` computes

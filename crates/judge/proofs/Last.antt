@@ -2,17 +2,17 @@
 use Prim.Native.Nat.{ℕ, zero, suc, _+_, _-_, _≤_, _<_}
 use mathlib.Core.Path.{_≡_, refl, sym, _∙_, ap, ap₂, subst}
 use mathlib.Core.List.{List, [], _∷_}
-use mathlib.Core.Bool.{Bool, true, false, cond, _&&_, true≢false, false≢true}
+use mathlib.Core.Bool.{Bool, true, false, cond, true≢false, false≢true}
 use mathlib.Core.Option.{Option, none, some}
 use mathlib.Core.Logic.{_⊎_, inl, inr, ⊎-elim}
 use native.Mathlib.Omega.{arith}
 use native.Mathlib.Decide.{decLt, ℕ-discrete}
-use borrow.Author.Tests.{le-leb, lt-leb}
-use lib.Dec.{leb}
+use borrow.Author.Tests.{lt-ltb, le-ltb}
+use lib.Dec.{ltb}
 use Rattle.eno.specs.Suboption.{Sent, name}
 use Rattle.eno.specs.Judge.{Way, fresh, resumed, wayIf, isResumed, Negotiated, negotiatedBy, orElse, lastValid}
 use Rattle.eno.specs.Laws.Teps.{In, Ordered, ordered-in}
-use Rattle.valid_tep.specs.Best.{foundAt, noneYet, laterOf, betterOf, bestFrom}
+use Rattle.valid_tep.specs.Best.{foundAt, noneYet, isLater, resumedBy, betterOf, bestFrom}
 use Rattle.valid_tep.specs.declared.Best.{Best}
 
 abbrev chosenAs : Sent → Way → Option Negotiated
@@ -114,19 +114,19 @@ module _ (valid : ℕ → Option Way) where
                   (λ y i q v. let z = same-start y i q in omega arith);
             }
 
-        among-later : Among (suc n) (laterOf best (start (0x21 + n)) (isResumed w))
-        unfolding laterOf
+        among-later : Among (suc n) (betterOf best (some w) (start (0x21 + n)))
+        unfolding betterOf isLater resumedBy
         among-later = go (best .found) refl
           where
-            go : (b : Bool) → best .found ≡ b → Among (suc n) (cond (b && leb (start (0x21 + n)) (best .start)) best (foundAt (start (0x21 + n)) (isResumed w)))
+            go : (b : Bool) → best .found ≡ b → Among (suc n) (cond (cond b (ltb (best .start) (start (0x21 + n))) true) (foundAt (start (0x21 + n)) (isResumed w)) best)
             go false f = among-new (λ j h y i q v. absurd (v (ap valid q ∙ a .none-found f j h)))
             go true f = elim (decLt (best .start) (start (0x21 + n))) [
-              | yes h ↦ rw (lt-leb _ _ h) (among-new (λ j k y i q v. let z = a .largest f j k y i q v in omega arith))
-              | no h ↦ let k : start (0x21 + n) ≤ best .start = omega arith in rw (le-leb _ _ k) (among-kept f k)
+              | yes h ↦ rw (lt-ltb _ _ h) (among-new (λ j k y i q v. let z = a .largest f j k y i q v in omega arith))
+              | no h ↦ let k : start (0x21 + n) ≤ best .start = omega arith in rw (le-ltb _ _ k) (among-kept f k)
             ]
 
       among-better : Among (suc n) (betterOf best (valid (0x21 + n)) (start (0x21 + n)))
-      unfolding betterOf
+      unfolding betterOf isLater
       among-better = go (valid (0x21 + n)) refl
         where
           go : (o : Option Way) → valid (0x21 + n) ≡ o → Among (suc n) (betterOf best o (start (0x21 + n)))

@@ -1,15 +1,16 @@
 -- Why a second SYN ends in plain TCP, by the tests of the code.
-use Prim.Native.Nat.{ℕ, _-_, min}
+use Prim.Native.Nat.{ℕ, _-_, _≤_, min}
 use mathlib.Core.Path.{_≡_, refl, sym, _∙_, ap}
 use mathlib.Core.List.{List, [], _∷_}
 use mathlib.Core.Bool.{Bool, true, false, cond, not}
 use mathlib.Core.Option.{Option, none, some}
 use native.Mathlib.Omega.{arith}
-use lib.ListN.{take, drop}
+use lib.ListN.{length, take, drop}
 use Rattle.wire.specs.Bytes.{sameBytes}
 use Rattle.eno.specs.Area.{finding, partOf, synOption}
 use Rattle.eno.specs.Suboption.{suboptions, isIllFormed}
 use Rattle.eno.specs.Judge.{isUnreadable, isMissing}
+use Rattle.eno.specs.Laws.Found.{found-short}
 use Rattle.suboptions.specs.Summary.{summaryOf}
 use Rattle.suboptions.specs.Laws.{summary-says}
 use Rattle.suboptions.specs.declared.Summary.{Summary}
@@ -35,6 +36,9 @@ module _ (d : Door) (area : List ℕ) (n : ℕ) (is : reasonAs n ≡ absenceOf a
       go false false e = let s = is-reason n h in let z : _≡_ {A = ℕ} 0 1 = cc in absurd (omega arith)
 
   module _ (none-absent : n ≡ 0) (o : List ℕ) (eo : o ≡ partOf area (finding area true)) (s : Summary) (es : s ≡ summaryOf o) where
+    within : length o ≤ 255
+    within = let h = found-short area true o eo in omega arith
+
     present : secondReason d area ≡ cond (s .«ill_formed») (some 3) (cond (not (sameBytes o (peerOption d))) (some 7) none)
     unfolding secondReason absenceOf refusal synOption
     present = go (isUnreadable (finding area true)) (isMissing (finding area true)) (ap reasonAs (sym none-absent) ∙ is) ∙ rest
@@ -47,7 +51,7 @@ module _ (d : Door) (area : List ℕ) (n : ℕ) (is : reasonAs n ≡ absenceOf a
         rest : Rest ≡ cond (s .«ill_formed») (some 3) (cond (not (sameBytes o (peerOption d))) (some 7) none)
         rest =
             sym (
-            ap (λ b. cond b (some 3) (cond (not (sameBytes o (peerOption d))) (some 7) none)) (ap (λ (x : Summary). x .«ill_formed») (es ∙ summary-says o))
+            ap (λ b. cond b (some 3) (cond (not (sameBytes o (peerOption d))) (some 7) none)) (ap (λ (x : Summary). x .«ill_formed») (es ∙ summary-says o within))
             ∙ ap (λ l. cond (isIllFormed (suboptions l)) (some 3) (cond (not (sameBytes l (peerOption d))) (some 7) none)) eo
             )
 

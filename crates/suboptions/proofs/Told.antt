@@ -9,14 +9,12 @@ use lib.ListN.{length, getD, set, length-set, replicate}
 use Rattle.eno.specs.Walk.{end, fault, item, Reading, readable, faulty, before, itemsOf}
 use Rattle.eno.specs.Suboption.{Sent, Suboption, global, tep, suboptionAt, suboptions, globals, globalByte, roleBit, awareBit, teps, name}
 use Rattle.eno.specs.Laws.Walk.{unroll-end, unroll-fault, unroll-item}
-use Rattle.eno.specs.Laws.Suboption.{suboption-onward}
-use Rattle.suboptions.specs.Summary.{never, again, entriesFrom, entriesOf, summed, summaryOf}
+use Rattle.eno.specs.Laws.Suboption.{SuboptionCase, a-global, a-bare, to-end, a-counted, suboption-case, suboption-onward}
+use Rattle.suboptions.specs.Summary.{never, again, entriesFrom, entriesOf, illFormed, summed, summaryOf}
+use Rattle.suboptions.specs.Laws.{summary-within}
 use Rattle.suboptions.specs.declared.Entry.{Entry}
 use Rattle.suboptions.specs.declared.Summary.{Summary}
 use Rattle.suboptions.proofs.Entries.{entries-nil, entries-other, entries-known, bounded-set}
-
-abbrev pub illFormed : Summary
-illFormed = record { «ill_formed» = true; role = 0; aware = false; teps = replicate 4 never }
 
 abbrev pub wellFormed : ℕ → List Entry → Summary
 wellFormed g es = record { «ill_formed» = false; role = g % 2; aware = eqb (g / 2 % 2) 1; teps = es }
@@ -28,14 +26,23 @@ summedAfter es first g (readable l) = wellFormed (cond first (globalByte l) g) (
 
 module _ (o : List ℕ) where
   pub record Told (es : List Entry) (i : ℕ) (first : Bool) (g : ℕ) : Type 0 where
+    pub short : length o ≤ 255
     pub four : length es ≡ 4
     pub bounded : (k : ℕ) → getD es k never .times ≤ i
     pub none-yet : first ≡ true → g ≡ 0
     pub rest : summedAfter es first g (itemsOf (suboptionAt o) (length o) i) ≡ summaryOf o
 
-  pub told-start : Told (replicate 4 never) 2 true 0
-  unfolding summaryOf suboptions summed roleBit awareBit entriesOf
-  told-start = record { four = refl; bounded = none-sent 4; none-yet = λ h. refl; rest = go (itemsOf (suboptionAt o) (length o) 2) }
+  pub told-start : (e : Entry) → e ≡ never → length o ≤ 255 → Told (replicate 4 e) 2 true 0
+  unfolding suboptions summed roleBit awareBit entriesOf
+  told-start e is short =
+      rw is
+      (record {
+        short = short;
+        four = refl;
+        bounded = none-sent 4;
+        none-yet = λ h. refl;
+        rest = go (itemsOf (suboptionAt o) (length o) 2) ∙ sym (summary-within o short);
+      })
     where
       none-sent : (n k : ℕ) → getD (replicate n never) k never .times ≤ 2
       none-sent zero k = omega arith
@@ -64,7 +71,7 @@ module _ (o : List ℕ) where
       pub told-global : first ≡ true → Told es j false y
       unfolding globalByte globals teps
       told-global t =
-          record { four = k .four; bounded = still-bounded e; none-yet = λ h. absurd (false≢true h); rest = go (itemsOf (suboptionAt o) (length o) j) ∙ passed e }
+          record { short = k .short; four = k .four; bounded = still-bounded e; none-yet = λ h. absurd (false≢true h); rest = go (itemsOf (suboptionAt o) (length o) j) ∙ passed e }
         where
           go : (r : Reading (Unit {0}) Suboption) → summedAfter es false y r ≡ summedAfter es first g (before (global y) r)
           go (faulty f) = refl
@@ -72,18 +79,35 @@ module _ (o : List ℕ) where
 
       pub told-global-again : first ≡ false → Told es j first g
       unfolding globalByte globals teps
-      told-global-again t = record { four = k .four; bounded = still-bounded e; none-yet = k .none-yet; rest = go (itemsOf (suboptionAt o) (length o) j) ∙ passed e }
+      told-global-again t = record { short = k .short; four = k .four; bounded = still-bounded e; none-yet = k .none-yet; rest = go (itemsOf (suboptionAt o) (length o) j) ∙ passed e }
         where
           go : (r : Reading (Unit {0}) Suboption) → summedAfter es first g r ≡ summedAfter es first g (before (global y) r)
           go (faulty f) = refl
           go (readable l) = rw t
 
     module _ {x : Sent} {j : ℕ} (e : suboptionAt o i ≡ item (tep x) j) where
+      -- its data ends at the next place
+      told-ends : x .start + x .len ≡ j
+      told-ends = go (suboption-case o i (tep x) j e)
+        where
+          go : SuboptionCase o i (tep x) j → x .start + x .len ≡ j
+          go (a-global h g ex ej) = let z : _≡_ {A = ℕ} 0 1 = cc in absurd (omega arith)
+          go (a-bare h g t ex ej) = let s : x .start ≡ i + 1 = cc in let l : x .len ≡ 0 = cc in omega arith
+          go (to-end h r ex ej) = let s : x .start ≡ i + 1 = cc in let l : x .len ≡ length o - (i + 1) = cc in omega arith
+          go (a-counted n low high y en fits ex ej) = let s : x .start ≡ i + 2 = cc in let l : x .len ≡ n = cc in omega arith
+
+      -- so its start and its length are single bytes
+      pub told-fits : x .start + x .len ≤ 255
+      told-fits =
+          let w = told-onward e in
+          let q = told-ends in
+          omega (arith, k .short)
+
       -- one more TEP, by what it does to the entries
       told-tep : (es′ : List Entry) → length es′ ≡ 4 → ((m : ℕ) → getD es′ m never .times ≤ j)
           → ((l : List Sent) → entriesFrom 0x21 es (x ∷ l) ≡ entriesFrom 0x21 es′ l) → Told es′ j first g
       unfolding globalByte globals teps
-      told-tep es′ four bounded h = record { four = four; bounded = bounded; none-yet = k .none-yet; rest = go (itemsOf (suboptionAt o) (length o) j) ∙ passed e }
+      told-tep es′ four bounded h = record { short = k .short; four = four; bounded = bounded; none-yet = k .none-yet; rest = go (itemsOf (suboptionAt o) (length o) j) ∙ passed e }
         where
           go : (r : Reading (Unit {0}) Suboption) → summedAfter es′ first g r ≡ summedAfter es first g (before (tep x) r)
           go (faulty f) = refl

@@ -4,12 +4,13 @@ use mathlib.Core.Path.{_≡_, refl, sym, _∙_, ap}
 use mathlib.Core.List.{List, [], _∷_}
 use mathlib.Core.Bool.{Bool, true, false}
 use native.Mathlib.Omega.{arith}
+use borrow.Author.Tests.{le-ltb, lt-ltb}
 use lib.Dec.{eqb}
 use lib.ListN.{length, getD, replicate}
 use Rattle.eno.specs.Walk.{Reading, readable, faulty, listed}
 use Rattle.eno.specs.Suboption.{Sent, Suboption, suboptions, isIllFormed, globals, globalByte, roleBit, awareBit, teps}
 use Rattle.eno.specs.Judge.{named, once, tepsOf, roleOf, awareOf}
-use Rattle.suboptions.specs.Summary.{never, again, entryFrom, entriesFrom, entriesOf, summed, summaryOf}
+use Rattle.suboptions.specs.Summary.{never, again, entryFrom, entriesFrom, entriesOf, illFormed, summed, summaryOf}
 use Rattle.suboptions.specs.declared.Entry.{Entry}
 use Rattle.suboptions.specs.declared.Summary.{Summary}
 
@@ -21,10 +22,20 @@ unfolding summed isIllFormed roleBit awareBit globalByte globals teps entriesOf 
 summed-says (readable l) = refl
 summed-says (faulty f) = refl
 
+-- of as many bytes as an option may have, the summary is that of the suboptions
+pub summary-within : (o : List ℕ) → length o ≤ 255 → summaryOf o ≡ summed (suboptions o)
+unfolding summaryOf
+summary-within o h = simp (le-ltb _ _ h)
+
+-- of more bytes, it is that of an ill-formed option
+pub summary-beyond : (o : List ℕ) → 255 < length o → summaryOf o ≡ illFormed
+unfolding summaryOf
+summary-beyond o h = simp (lt-ltb _ _ h)
+
 -- ill-formed or not, b, a, and the entries of the TEPs
-pub summary-says : (o : List ℕ) → summaryOf o ≡ saying (isIllFormed (suboptions o)) (roleOf o) (eqb (awareOf o) 1) (entriesOf (tepsOf o))
-unfolding summaryOf roleOf awareOf tepsOf
-summary-says o = summed-says (suboptions o)
+pub summary-says : (o : List ℕ) → length o ≤ 255 → summaryOf o ≡ saying (isIllFormed (suboptions o)) (roleOf o) (eqb (awareOf o) 1) (entriesOf (tepsOf o))
+unfolding roleOf awareOf tepsOf
+summary-says o h = summary-within o h ∙ summed-says (suboptions o)
 
 -- the entry of the TEP t + k of those from t on
 entry-from : (t : ℕ) (es : List Entry) (l : List Sent) (k : ℕ) → k < length es → getD (entriesFrom t es l) k never ≡ entryFrom (getD es k never) (named (t + k) l)

@@ -1,9 +1,9 @@
 -- The summary of an option: what the walk finds, by the list of its suboptions.
 use Prim.Native.Nat.{ℕ, _+_, _%_}
 use mathlib.Core.List.{List, [], _∷_}
-use mathlib.Core.Bool.{Bool, true, false}
-use lib.Dec.{eqb}
-use lib.ListN.{replicate}
+use mathlib.Core.Bool.{Bool, true, false, cond}
+use lib.Dec.{eqb, ltb}
+use lib.ListN.{length, replicate}
 use Rattle.eno.specs.Walk.{Piece, end, fault, item, Reading, readable, faulty}
 use Rattle.eno.specs.Suboption.{Sent, Suboption, global, tep, suboptions, roleBit, awareBit, teps}
 use Rattle.eno.specs.Judge.{named}
@@ -45,9 +45,14 @@ entriesFrom t (e ∷ es) l = entryFrom e (named t l) ∷ entriesFrom (t + 1) es 
 unfoldable pub entriesOf : List Sent → List Entry
 entriesOf l = entriesFrom 0x21 (replicate 4 never) l
 
+-- nothing is told of an ill-formed option
+abbrev pub illFormed : Summary
+illFormed = record { «ill_formed» = true; role = 0; aware = false; teps = replicate 4 never }
+
 unfoldable pub summed : Reading (Unit {0}) Suboption → Summary
-summed (faulty f) = record { «ill_formed» = true; role = 0; aware = false; teps = replicate 4 never }
+summed (faulty f) = illFormed
 summed (readable l) = record { «ill_formed» = false; role = roleBit l; aware = eqb (awareBit l) 1; teps = entriesOf (teps l) }
 
+-- an option's length stands in one byte: more than 255 bytes are no option
 unfoldable pub summaryOf : List ℕ → Summary
-summaryOf o = summed (suboptions o)
+summaryOf o = cond (ltb 255 (length o)) illFormed (summed (suboptions o))

@@ -2,7 +2,7 @@
 ghost use mathlib.Core.Path.{_≡_};
 ghost use Rattle.eno.specs.Suboption.{suboptionAt};
 ghost use Rattle.eno.specs.Judge.{isFresh, isBad};
-ghost use Rattle.suboptions.specs.Summary.{pieceOf, asSent, summaryOf};
+ghost use Rattle.suboptions.specs.Summary.{pieceOf, never, asSent, illFormed, summaryOf};
 
 // What stands at a place of an option.
 enum SuboptionAt {
@@ -73,12 +73,12 @@ fn suboption_at(option: &[u8], i: usize) -> SuboptionAt
     }
 }
 
-// How often a TEP was sent, and of the last time its byte with v and where its data stands in the option.
+// How often a TEP was sent, and of the last time its byte with v and where its data stands in the option; single bytes, since an option has at most 255.
 pub struct Entry {
-    pub times: usize,
+    pub times: u8,
     pub byte: u8,
-    pub start: usize,
-    pub len: usize,
+    pub start: u8,
+    pub len: u8,
 }
 
 // Whether what was sent of a TEP is fresh.
@@ -109,17 +109,38 @@ pub struct Summary {
     pub teps: [Entry; 4],
 }
 
-// The summary of an option, whose suboptions stand behind its kind and length byte.
-pub fn summarize(option: &[u8]) -> Summary
-    ensures { λ r. ⌜ r ≡ summaryOf (now (option .entry)) ⌝ }
+// A TEP that was not sent.
+fn never() -> Entry
+    ensures { λ r. ⌜ r ≡ never ⌝ }
 {
-    let never = Entry {
+    Entry {
         times: 0,
         byte: 0,
         start: 0,
         len: 0,
-    };
-    let mut teps = [never; 4];
+    }
+}
+
+// The summary of an ill-formed option: nothing was sent.
+fn ill_formed() -> Summary
+    ensures { λ r. ⌜ r ≡ illFormed ⌝ }
+{
+    Summary {
+        ill_formed: true,
+        role: 0,
+        aware: false,
+        teps: [never(); 4],
+    }
+}
+
+// The summary of an option, whose suboptions stand behind its kind and length byte.
+pub fn summarize(option: &[u8]) -> Summary
+    ensures { λ r. ⌜ r ≡ summaryOf (now (option .entry)) ⌝ }
+{
+    if 255 < option.len() {
+        return ill_formed();
+    }
+    let mut teps = [never(); 4];
     let mut i = 2;
     let mut first = true;
     let mut global: u8 = 0;
@@ -135,12 +156,7 @@ pub fn summarize(option: &[u8]) -> Summary
                 };
             }
             SuboptionAt::IllFormed => {
-                return Summary {
-                    ill_formed: true,
-                    role: 0,
-                    aware: false,
-                    teps: [never; 4],
-                };
+                return ill_formed();
             }
             SuboptionAt::Global { byte, next } => {
                 if first {
@@ -162,11 +178,13 @@ pub fn summarize(option: &[u8]) -> Summary
                         let k = (name - 0x21) as usize;
                         let e = teps[k];
                         let times = e.times + 1;
+                        let from = start as u8;
+                        let size = len as u8;
                         teps[k] = Entry {
                             times,
                             byte,
-                            start,
-                            len,
+                            start: from,
+                            len: size,
                         };
                     }
                 }

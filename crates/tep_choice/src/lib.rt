@@ -84,7 +84,7 @@ fn fitting(view: View, option: &[u8], e: Entry, t: u8) -> usize
     if suboptions::is_fresh(e) {
         return n;
     }
-    first_expecting(view, t, option, e.start)
+    first_expecting(view, t, option, e.start as usize)
 }
 
 // The last listed TEP that can be resumed.

@@ -4,10 +4,12 @@ use mathlib.Core.Path.{_≡_, refl, sym, _∙_, ap}
 use mathlib.Core.List.{List}
 use mathlib.Core.Bool.{Bool, true, false, cond, not, _&&_}
 use mathlib.Core.Option.{Option, none, some}
+use mathlib.Core.Logic.{_⊎_, ⊎-elim}
 use native.Mathlib.Omega.{arith}
-use borrow.Author.Tests.{eq-eqb, ne-eqb, le-leb, lt-leb}
-use lib.Dec.{eqb, leb}
+use borrow.Author.Tests.{eq-eqb, ne-eqb}
+use lib.Dec.{eqb, ltb}
 use lib.ListN.{length, take, drop, length-take, length-drop}
+use denote.Enum.Declared
 use Rattle.wire.specs.Bytes.{part, sameBytes, standsAt}
 use Rattle.eno.specs.Session.{inHand}
 use Rattle.eno.specs.Judge.{isFresh, isBad, Way, fresh, resumed, ofA, ofB}
@@ -15,8 +17,9 @@ use Rattle.eno.specs.declared.SessionRecord.{SessionRecord}
 use Rattle.eno.specs.declared.InHand.{InHand}
 use Rattle.suboptions.specs.Summary.{asSent}
 use Rattle.suboptions.specs.declared.Entry.{Entry}
-use Rattle.valid_tep.specs.Best.{startsB, matchesAt, wayOfEntries, wayAs, laterOf, betterOf, foundAt}
+use Rattle.valid_tep.specs.Best.{startsB, matchesAt, wayOfEntries, wayAs, isLater, resumedBy, betterOf, foundAt}
 use Rattle.valid_tep.specs.declared.Validity.{Validity}
+use Rattle.valid_tep.specs.declared.Validity.the-variants as validity
 use Rattle.valid_tep.specs.declared.Best.{Best}
 
 -- one of two
@@ -125,24 +128,50 @@ module _ (a b : List ℕ) (hand : Option SessionRecord) (ownIsB : Bool) (t : ℕ
               unfolding wayOfEntries
               way-no-match e = simp (eq-eqb _ _ one, eq-eqb _ _ once, ← ba, good-a, ← bb, good-b, ← fb, long-b, ← fa, long-a, ← is, e)
 
--- the larger start
-module _ (best : Best) (start : ℕ) (again : Bool) where
-  pub later-none : best .found ≡ false → foundAt start again ≡ laterOf best start again
-  unfolding laterOf
-  later-none e = simp e
+abbrev pub tag : Validity → ℕ
+tag v = Declared.tagOf (Declared.declared Rattle.valid_tep.proofs.Validity.enum) v
 
-  pub later-kept : best .found ≡ true → start ≤ best .start → best ≡ laterOf best start again
-  unfolding laterOf
-  later-kept e h = simp (e, le-leb _ _ h)
+-- whether a TEP stands behind the one found so far
+module _ (found : Bool) (start at : ℕ) where
+  pub later-invalid : (v : Validity) → v ≡ validity.Invalid → false ≡ isLater found start (wayAs v) at
+  unfolding isLater
+  later-invalid v e = rw e refl
 
-  pub later-taken : best .found ≡ true → best .start < start → foundAt start again ≡ laterOf best start again
-  unfolding laterOf
-  later-taken e h = simp (e, lt-leb _ _ h)
+  valid-later : (v : Validity) → (tag v ≡ 1) ⊎ (tag v ≡ 2) → cond found (ltb start at) true ≡ isLater found start (wayAs v) at
+  unfolding isLater
+  valid-later validity.Invalid h = absurd (⊎-elim (λ e. omega arith) (λ e. omega arith) h)
+  valid-later validity.Fresh h = refl
+  valid-later validity.Resumed h = refl
 
--- a better one, by what a TEP's validity is
-module _ (best : Best) (x y : Validity) (start : ℕ) (e : x ≡ y) where
-  pub better-by : betterOf best (wayAs y) start ≡ betterOf best (wayAs x) start
-  better-by = ap (λ v. betterOf best (wayAs v) start) (sym e)
+  pub later-behind : found ≡ true → (v : Validity) → (tag v ≡ 1) ⊎ (tag v ≡ 2) → ltb start at ≡ isLater found start (wayAs v) at
+  later-behind e v h = ap (λ b. cond b (ltb start at) true) (sym e) ∙ valid-later v h
+
+  pub later-first : found ≡ false → (v : Validity) → (tag v ≡ 1) ⊎ (tag v ≡ 2) → true ≡ isLater found start (wayAs v) at
+  later-first e v h = ap (λ b. cond b (ltb start at) true) (sym e) ∙ valid-later v h
+
+-- whether it is resumed
+pub resumed-is : (v : Validity) → v ≡ validity.Resumed → true ≡ resumedBy (wayAs v)
+unfolding resumedBy
+resumed-is v e = rw e refl
+
+pub resumed-not : (v : Validity) → (tag v ≡ 0) ⊎ (tag v ≡ 1) → false ≡ resumedBy (wayAs v)
+unfolding resumedBy
+resumed-not validity.Invalid h = refl
+resumed-not validity.Fresh h = refl
+resumed-not validity.Resumed h = absurd (⊎-elim (λ e. omega arith) (λ e. omega arith) h)
+
+abbrev pub bestAs : Bool → ℕ → Bool → Best
+bestAs found start again = record { found = found; start = start; resumed = again }
+
+-- the best so far after a TEP, by its parts f, n and r
+module _ (best : Best) (w : Option Way) (at : ℕ) (b : Bool) (is : b ≡ isLater (best .found) (best .start) w at) (f : Bool) (n : ℕ) (r : Bool) where
+  pub better-taken : b ≡ true → f ≡ true → n ≡ at → r ≡ resumedBy w → bestAs f n r ≡ betterOf best w at
+  unfolding betterOf
+  better-taken e p q s = rw (p, q, s) (simp (← is, e))
+
+  pub better-kept : b ≡ false → f ≡ best .found → n ≡ best .start → r ≡ best .resumed → bestAs f n r ≡ betterOf best w at
+  unfolding betterOf
+  better-kept e p q s = rw (p, q, s) (simp (← is, e))
 
 -- a half of an identifier
 pub half-at : (o : List ℕ) (at : ℕ) (identifier : List ℕ) (from e : ℕ) (m : List ℕ) → from ≤ 9 → length identifier ≡ 18 → e ≡ from + 9

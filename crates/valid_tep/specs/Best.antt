@@ -3,7 +3,7 @@ use Prim.Native.Nat.{ℕ, zero, suc, _+_, _-_}
 use mathlib.Core.List.{List}
 use mathlib.Core.Bool.{Bool, true, false, cond, not, _&&_}
 use mathlib.Core.Option.{Option, none, some}
-use lib.Dec.{leb, eqb}
+use lib.Dec.{ltb, eqb}
 use lib.ListN.{getD}
 use Rattle.wire.specs.Bytes.{part, sameBytes}
 use Rattle.eno.specs.Judge.{isFresh, isBad, Way, fresh, resumed, isResumed, ofA, ofB}
@@ -46,13 +46,18 @@ foundAt start again = record { found = true; start = start; resumed = again }
 abbrev pub noneYet : Best
 noneYet = record { found = false; start = 0; resumed = false }
 
--- the one with the larger start
-unfoldable pub laterOf : Best → ℕ → Bool → Best
-laterOf best start again = cond (best .found && leb start (best .start)) best (foundAt start again)
+-- a TEP that is valid in the way w, with its data from `at` on, stands behind the one found so far, if any
+unfoldable pub isLater : Bool → ℕ → Option Way → ℕ → Bool
+isLater found start none at = false
+isLater found start (some w) at = cond found (ltb start at) true
 
+unfoldable pub resumedBy : Option Way → Bool
+resumedBy none = false
+resumedBy (some w) = isResumed w
+
+-- the one with the larger start
 unfoldable pub betterOf : Best → Option Way → ℕ → Best
-betterOf best none start = best
-betterOf best (some w) start = laterOf best start (isResumed w)
+betterOf best w at = cond (isLater (best .found) (best .start) w at) (foundAt at (resumedBy w)) best
 
 -- over n TEPs from t on, whose ways and starts are given
 unfoldable pub bestFrom : (ℕ → Option Way) → (ℕ → ℕ) → ℕ → ℕ → Best → Best

@@ -6,7 +6,7 @@ ghost use Prim.Native.Nat.{_≤_};
 ghost use Rattle.wire.specs.Bytes.{sameBytes, part};
 ghost use Rattle.eno.specs.Session.{inHand};
 ghost use Rattle.eno.specs.Judge.{ofA, ofB};
-ghost use Rattle.valid_tep.specs.Best.{startsB, matchesAt, wayAs, wayOfEntries, laterOf, betterOf, bestOf};
+ghost use Rattle.valid_tep.specs.Best.{startsB, matchesAt, wayAs, wayOfEntries, isLater, resumedBy, bestOf};
 
 fn of_b(own_is_b: bool, own: Entry, peer: Entry) -> Entry
     ensures { λ r. ⌜ r ≡ ofB «own_is_b» own peer ⌝ }
@@ -110,7 +110,15 @@ fn way_of<'a>(
     if suboptions::is_fresh(of_a) {
         return Validity::Invalid;
     }
-    if matches(a, b, hand, own_is_b, t, of_a.start, of_b.start) {
+    if matches(
+        a,
+        b,
+        hand,
+        own_is_b,
+        t,
+        of_a.start as usize,
+        of_b.start as usize,
+    ) {
         Validity::Resumed
     } else {
         Validity::Invalid
@@ -124,28 +132,22 @@ pub struct Best {
     pub resumed: bool,
 }
 
-fn later(best: Best, start: usize, resumed: bool) -> Best
-    ensures { λ r. ⌜ r ≡ laterOf best start resumed ⌝ }
+// Whether a TEP that is valid in the way v, with its data from `at` on, stands behind the one found so far, if any.
+fn is_later(found: bool, start: usize, v: Validity, at: usize) -> bool
+    ensures { λ r. ⌜ r ≡ isLater found start (wayAs v) at ⌝ }
 {
-    if best.found {
-        if start <= best.start {
-            return best;
-        }
-    }
-    Best {
-        found: true,
-        start,
-        resumed,
+    match v {
+        Validity::Invalid => false,
+        _ => if found { start < at } else { true },
     }
 }
 
-fn better(best: Best, v: Validity, start: usize) -> Best
-    ensures { λ r. ⌜ r ≡ betterOf best (wayAs v) start ⌝ }
+fn is_resumed(v: Validity) -> bool
+    ensures { λ r. ⌜ r ≡ resumedBy (wayAs v) ⌝ }
 {
     match v {
-        Validity::Invalid => best,
-        Validity::Fresh => later(best, start, false),
-        Validity::Resumed => later(best, start, true),
+        Validity::Resumed => true,
+        _ => false,
     }
 }
 
@@ -160,11 +162,9 @@ pub fn best_of<'a>(
 ) -> Best
     ensures { λ r. ⌜ r ≡ bestOf (now (a .entry)) (now (b .entry)) (inHand hand) «own_is_b» own peer ⌝ }
 {
-    let mut best = Best {
-        found: false,
-        start: 0,
-        resumed: false,
-    };
+    let mut found = false;
+    let mut start = 0;
+    let mut resumed = false;
     let mut t: u8 = 0x21;
     while t < 0x25 {
         let k = (t - 0x21) as usize;
@@ -173,8 +173,17 @@ pub fn best_of<'a>(
         let ea = of_a(own_is_b, mine, theirs);
         let eb = of_b(own_is_b, mine, theirs);
         let v = way_of(a, b, hand, own_is_b, t, ea, eb);
-        best = better(best, v, eb.start);
+        let at = eb.start as usize;
+        if is_later(found, start, v, at) {
+            found = true;
+            start = at;
+            resumed = is_resumed(v);
+        }
         t += 1;
     }
-    best
+    Best {
+        found,
+        start,
+        resumed,
+    }
 }

@@ -8,7 +8,7 @@ use Rattle.eno.specs.Area.{synOption}
 use Rattle.door.specs.Answer.{answering}
 use Rattle.tep_choice.specs.Choosing.{decisionOf}
 use Rattle.opening.specs.Laws.Terms.{terms-list}
-use Rattle.door_data.specs.Laws.{found-short}
+use Rattle.eno.specs.Laws.Found.{found-short}
 use Rattle.deciding.specs.Laws.{decided-is}
 use Rattle.opening.specs.Laws.Outcomes.{refuses}
 use Rattle.answering.proofs.Outcomes.{answer-long, answer-terms, answer-turn, answer-plain, answer-with, answer-fits}
@@ -69,7 +69,7 @@ enum-known-decision-2 c = search needs
 
 respond-requires : tie.Need-respond-requires
 unfolding synOption
-respond-requires c κs = (found-short _ _ (c .before .before .before .before .before .find-option .ensures), answer-fits _ _ _ _ _ _ [] (omega arith) (sym (c .before .before .before .before .before .before .before .before .before .terms-fit .ensures) ∙ not-false _ (c .before .before .before .before .before .before .before .before .if2 .left)) _ _ (sym (ap decisionOf (c .before .before .decision2 .given .1)) ∙ decided (c .before .before .before .before)))
+respond-requires c κs = (found-short _ _ _ (c .before .before .before .before .before .find-option .ensures), answer-fits _ _ _ _ _ _ [] (omega arith) (sym (c .before .before .before .before .before .before .before .before .before .terms-fit .ensures) ∙ not-false _ (c .before .before .before .before .before .before .before .before .if2 .left)) _ _ (sym (ap decisionOf (c .before .before .decision2 .given .1)) ∙ decided (c .before .before .before .before)))
 
 returns-4 : tie.Need-returns-4
 unfolding seenOf

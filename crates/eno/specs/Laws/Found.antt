@@ -119,6 +119,22 @@ found-option s syn i n e = go (ltb mostArea (length s)) refl e
         record { begins = part-begins s i n h; long = part-long s i n h; two = h .two; within = h .within; short = ltb-false _ _ t }
 
 module _ (s : List ℕ) (syn : Bool) where
+  -- the option of an area has at most 40 bytes
+  pub found-short : (o : List ℕ) → o ≡ partOf s (finding s syn) → length o ≤ 40
+  unfolding partOf
+  found-short o e = go (finding s syn) refl (ap length e)
+    where
+      go : (f : Finding) → finding s syn ≡ f → length o ≡ length (partOf s f) → length o ≤ 40
+      go refused q l = omega arith
+      go (unreadable x) q l = omega arith
+      go missing q l = omega arith
+      go (found i n) q l =
+          let h = found-option s syn i n q in
+          let w = h .long in
+          let v = h .within in
+          let u = h .short in
+          omega arith
+
   -- where the companion says found, the part has bytes
   pub says-found : status (finding s syn) ≡ saysFound → partOf s (finding s syn) ≡ [] → ⊥
   unfolding status partOf

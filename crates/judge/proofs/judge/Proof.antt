@@ -1,7 +1,8 @@
 -- `judge` meets its contract.
 use mathlib.Core.Path.{_≡_, refl, sym, _∙_, ap}
 use native.Mathlib.Omega.{arith}
-use Rattle.judge.proofs.Cases.{is-short, judge-missed-own, judge-missed-peer, judge-ill-own, judge-ill-peer, judge-equal, judge-unaware, judge-negotiated}
+use Rattle.eno.specs.Laws.Found.{found-short}
+use Rattle.judge.proofs.Cases.{judge-missed-own, judge-missed-peer, judge-ill-own, judge-ill-peer, judge-equal, judge-unaware, judge-negotiated}
 use borrow.Author.Needs.{needs}
 use Rattle.judge.proofs.judge.Statement.{statement}
 use Rattle.judge.proofs.judge.Tie as tie
@@ -58,7 +59,7 @@ returns-6 : tie.Need-returns-6
 returns-6 c = judge-unaware _ _ _ _ _ _ (c .before .before .before .before .before .before .before .before .before .before .before .before .before .find-option .ensures) (c .before .before .before .before .before .before .before .before .before .before .before .before .find-option2 .ensures) (omega arith) (omega arith) _ _ (c .before .before .before .before .before .before .before .before .before .summarize .ensures) (c .before .before .before .before .before .before .before .before .summarize2 .ensures) (c .before .before .before .before .before .before .before .if3 .left) (c .before .before .before .before .before .before .if4 .left) (omega arith) _ (c .before .before .is-unaware .ensures) (c .before .if6 .taken) _ (c .without-transcript4 .ensures)
 
 negotiate-requires : tie.Need-negotiate-requires
-negotiate-requires c κs = (is-short _ _ (c .before .before .before .before .before .before .before .before .before .before .before .before .find-option .ensures) (omega arith), is-short _ _ (c .before .before .before .before .before .before .before .before .before .before .before .find-option2 .ensures) (omega arith))
+negotiate-requires c κs = (found-short _ _ _ (c .before .before .before .before .before .before .before .before .before .before .before .before .find-option .ensures), found-short _ _ _ (c .before .before .before .before .before .before .before .before .before .before .before .find-option2 .ensures))
 
 returns-7 : tie.Need-returns-7
 returns-7 c = judge-negotiated _ _ _ _ _ _ (c .before .before .before .before .before .before .before .before .before .before .before .before .before .find-option .ensures) (c .before .before .before .before .before .before .before .before .before .before .before .before .find-option2 .ensures) (omega arith) (omega arith) _ _ (c .before .before .before .before .before .before .before .before .before .summarize .ensures) (c .before .before .before .before .before .before .before .before .summarize2 .ensures) (c .before .before .before .before .before .before .before .if3 .left) (c .before .before .before .before .before .before .if4 .left) (omega arith) _ (c .before .before .is-unaware .ensures) (c .before .if6 .left) _ (c .negotiate .ensures)

@@ -2,8 +2,7 @@
 use mathlib.Core.Path.{_≡_}
 use lib.ListN.{length, length-map}
 use native.Mathlib.Omega.{arith}
-use Rattle.eno.specs.Area.{synOption}
-use Rattle.door_data.specs.Laws.{found-short}
+use Rattle.eno.specs.Laws.Found.{found-short}
 use Rattle.segments.proofs.Reasons.{judged-refused, judged-plain, judged-encrypted}
 use borrow.Author.Needs.{needs}
 use Rattle.segments.proofs.after_judging.Statement.{statement}
@@ -46,8 +45,7 @@ find-option-requires : tie.Need-find-option-requires
 find-option-requires c κs = search needs
 
 judged-door-requires : tie.Need-judged-door-requires
-unfolding synOption
-judged-door-requires c κs = found-short _ _ (c .find-option .ensures)
+judged-door-requires c κs = found-short _ _ _ (c .find-option .ensures)
 
 open-if-requires : tie.Need-open-if-requires
 open-if-requires c κs = search needs

@@ -7,22 +7,32 @@ use lib.ListN.{length}
 use Rattle.eno.specs.Walk.{item}
 use Rattle.eno.specs.Suboption.{suboptionAt, tep}
 use Rattle.suboptions.specs.Summary.{pieceOf, again}
-use Rattle.suboptions.proofs.Told.{Told, told-start, told-onward, told-global, told-global-again, told-unknown, told-known, told-ill-formed, told-end}
+use Rattle.suboptions.specs.Laws.{summary-beyond}
+use Rattle.suboptions.proofs.Told.{Told, told-start, told-onward, told-fits, told-global, told-global-again, told-unknown, told-known, told-ill-formed, told-end}
 use Rattle.suboptions.proofs.summarize.Statement.{statement}
 use Rattle.suboptions.proofs.summarize.Tie as tie
 
 abbrev Inv-loop : tie.InvT-loop
-Inv-loop option never teps₀ i₀ first₀ global₀ teps i first g = Told option teps i first g
+Inv-loop option teps₀ i₀ first₀ global₀ teps i first g = Told option teps i first g
 
 abbrev μ-loop : tie.MeasureT-loop
-μ-loop option never teps₀ i₀ first₀ global₀ teps i first g = length option - i
+μ-loop option teps₀ i₀ first₀ global₀ teps i first g = length option - i
 
 -- what stands at the place
-at : (c : tie.After-suboption-at Inv-loop μ-loop) → pieceOf (c .suboption-at .result) ≡ suboptionAt (c .before .before .before .args .option .now) (c .before .loop .i)
+at : (c : tie.After-suboption-at Inv-loop μ-loop) → pieceOf (c .suboption-at .result) ≡ suboptionAt (c .before .before .before .before .before .args .option .now) (c .before .loop .i)
 at c = c .suboption-at .ensures
 
+ill-formed-requires : tie.Need-ill-formed-requires Inv-loop μ-loop
+ill-formed-requires c κs = search needs
+
+returns : tie.Need-returns Inv-loop μ-loop
+returns c = c .ill-formed .ensures ∙ sym (summary-beyond _ (omega arith))
+
+never-requires : tie.Need-never-requires Inv-loop μ-loop
+never-requires c κs = search needs
+
 loop-holds : tie.Need-loop-holds Inv-loop μ-loop
-loop-holds c = told-start _
+loop-holds c = told-start _ _ (c .never .ensures) (omega arith)
 
 suboption-at-requires : tie.Need-suboption-at-requires Inv-loop μ-loop
 suboption-at-requires c κs = tt
@@ -30,14 +40,17 @@ suboption-at-requires c κs = tt
 enum-told : tie.Need-enum-told Inv-loop μ-loop
 enum-told c = search needs
 
-returns : tie.Need-returns Inv-loop μ-loop
-returns c = told-end _ (c .before .before .before .loop .inv) (sym (at (c .before .before)) ∙ ap pieceOf (c .enum-told .given .1))
+returns-2 : tie.Need-returns-2 Inv-loop μ-loop
+returns-2 c = told-end _ (c .before .before .before .loop .inv) (sym (at (c .before .before)) ∙ ap pieceOf (c .enum-told .given .1))
 
 enum-told-2 : tie.Need-enum-told-2 Inv-loop μ-loop
 enum-told-2 c = search needs
 
-returns-2 : tie.Need-returns-2 Inv-loop μ-loop
-returns-2 c = told-ill-formed _ (c .before .before .before .loop .inv) (sym (at (c .before .before)) ∙ ap pieceOf (c .enum-told2 .given .1))
+ill-formed-requires-2 : tie.Need-ill-formed-requires-2 Inv-loop μ-loop
+ill-formed-requires-2 c κs = search needs
+
+returns-3 : tie.Need-returns-3 Inv-loop μ-loop
+returns-3 c = c .ill-formed2 .ensures ∙ told-ill-formed _ (c .before .before .before .before .loop .inv) (sym (at (c .before .before .before)) ∙ ap pieceOf (c .before .enum-told2 .given .1))
 
 enum-known-p : tie.Need-enum-known-p Inv-loop μ-loop
 enum-known-p c = search needs
@@ -46,13 +59,13 @@ loop-less : tie.Need-loop-less Inv-loop μ-loop
 loop-less c = let h = told-onward _ (c .before .before .before .before .before .loop .inv) (sym (at (c .before .before .before .before)) ∙ ap pieceOf (c .before .before .p .given .1)) in omega arith
 
 loop-again : tie.Need-loop-again Inv-loop μ-loop
-loop-again c = told-global _ (c .before .before .before .before .before .loop .inv) (sym (at (c .before .before .before .before)) ∙ ap pieceOf (c .before .before .p .given .1)) (c .if1 .taken)
+loop-again c = told-global _ (c .before .before .before .before .before .loop .inv) (sym (at (c .before .before .before .before)) ∙ ap pieceOf (c .before .before .p .given .1)) (c .if2 .taken)
 
 loop-less-2 : tie.Need-loop-less-2 Inv-loop μ-loop
 loop-less-2 c = let h = told-onward _ (c .before .before .before .before .before .loop .inv) (sym (at (c .before .before .before .before)) ∙ ap pieceOf (c .before .before .p .given .1)) in omega arith
 
 loop-again-2 : tie.Need-loop-again-2 Inv-loop μ-loop
-loop-again-2 c = told-global-again _ (c .before .before .before .before .before .loop .inv) (sym (at (c .before .before .before .before)) ∙ ap pieceOf (c .before .before .p .given .1)) (c .if1 .left)
+loop-again-2 c = told-global-again _ (c .before .before .before .before .before .loop .inv) (sym (at (c .before .before .before .before)) ∙ ap pieceOf (c .before .before .p .given .1)) (c .if2 .left)
 
 enum-known-p-2 : tie.Need-enum-known-p-2 Inv-loop μ-loop
 enum-known-p-2 c = search needs
@@ -67,7 +80,17 @@ array-copy-out-e : tie.Need-array-copy-out-e Inv-loop μ-loop
 array-copy-out-e c = omega arith
 
 add-times : tie.Need-add-times Inv-loop μ-loop
-add-times c = let h = told-onward _ (c .before .before .before .before .before .before .before .before .loop .inv) (sym (at (c .before .before .before .before .before .before .before)) ∙ ap pieceOf (c .before .before .before .before .before .p2 .given .1)) in let b = c .before .before .before .before .before .before .before .before .loop .inv .bounded (c .before .before .before .before .before .p2 .given .0 .1 .0 % 128 - 0x21) in omega arith
+add-times c =
+    let k = c .before .before .before .before .before .before .before .before .loop .inv in
+    let h = told-onward _ k (sym (at (c .before .before .before .before .before .before .before)) ∙ ap pieceOf (c .before .before .before .before .before .p2 .given .1)) in
+    let b = k .bounded (c .before .before .before .before .before .p2 .given .0 .1 .0 % 128 - 0x21) in
+    omega (arith, k .short)
+
+cast-from : tie.Need-cast-from Inv-loop μ-loop
+cast-from c = let h = told-fits _ (c .before .before .before .before .before .before .before .before .loop .inv) (sym (at (c .before .before .before .before .before .before .before)) ∙ ap pieceOf (c .before .before .before .before .before .p2 .given .1)) in omega arith
+
+cast-size : tie.Need-cast-size Inv-loop μ-loop
+cast-size c = let h = told-fits _ (c .before .before .before .before .before .before .before .before .loop .inv) (sym (at (c .before .before .before .before .before .before .before)) ∙ ap pieceOf (c .before .before .before .before .before .p2 .given .1)) in omega arith
 
 mul-teps : tie.Need-mul-teps Inv-loop μ-loop
 mul-teps c = search needs
@@ -100,12 +123,16 @@ summarize-spec =
     (tie.spec
     Inv-loop
     μ-loop
+    ill-formed-requires
+    returns
+    never-requires
     loop-holds
     suboption-at-requires
     enum-told
-    returns
-    enum-told-2
     returns-2
+    enum-told-2
+    ill-formed-requires-2
+    returns-3
     enum-known-p
     loop-less
     loop-again
@@ -116,6 +143,8 @@ summarize-spec =
     mul-e
     array-copy-out-e
     add-times
+    cast-from
+    cast-size
     mul-teps
     array-set-from-teps
     loop-less-3

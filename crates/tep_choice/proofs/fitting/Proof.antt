@@ -21,11 +21,14 @@ is-fresh-requires c κs = search needs
 returns-2 : tie.Need-returns-2
 returns-2 c = fitting-fresh _ _ _ _ _ (c .before .before .before .before .held-count .ensures .seen) _ (c .before .before .before .is-candidate .ensures) (not-false _ (c .before .before .if1 .left)) _ (c .before .is-fresh .ensures) (c .if2 .taken)
 
+cast-first-expecting : tie.Need-cast-first-expecting
+cast-first-expecting c = search needs
+
 first-expecting-requires : tie.Need-first-expecting-requires
 first-expecting-requires c κs = search needs
 
 returns-3 : tie.Need-returns-3
-returns-3 c = c .first-expecting .ensures ∙ fitting-first _ _ _ _ _ (c .before .before .before .before .before .held-count .ensures .seen) _ (c .before .before .before .before .is-candidate .ensures) (not-false _ (c .before .before .before .if1 .left)) _ (c .before .before .is-fresh .ensures) (c .before .if2 .left)
+returns-3 c = c .first-expecting .ensures ∙ fitting-first _ _ _ _ _ (c .before .before .before .before .before .before .held-count .ensures .seen) _ (c .before .before .before .before .before .is-candidate .ensures) (not-false _ (c .before .before .before .before .if1 .left)) _ (c .before .before .before .is-fresh .ensures) (c .before .before .if2 .left)
 
 pub fitting-spec : {M : Type 1} → statement M
 fitting-spec =
@@ -36,5 +39,6 @@ fitting-spec =
     returns
     is-fresh-requires
     returns-2
+    cast-first-expecting
     first-expecting-requires
     returns-3)

@@ -35,14 +35,20 @@ is-fresh-requires-2 c κs = search needs
 returns-6 : tie.Need-returns-6
 returns-6 c = way-fresh-a _ _ _ _ _ _ _ (omega arith) (omega arith) _ (c .before .before .before .before .before .before .before .is-bad .ensures) (c .before .before .before .before .before .before .if3 .left) _ (c .before .before .before .before .before .is-bad2 .ensures) (c .before .before .before .before .if4 .left) _ (c .before .before .before .is-fresh .ensures) (c .before .before .if5 .left) _ (c .before .is-fresh2 .ensures) (c .if6 .taken)
 
+cast-matches : tie.Need-cast-matches
+cast-matches c = search needs
+
+cast-matches-2 : tie.Need-cast-matches-2
+cast-matches-2 c = search needs
+
 matches-requires : tie.Need-matches-requires
 matches-requires c κs = search needs
 
 returns-7 : tie.Need-returns-7
-returns-7 c = way-resumed _ _ _ _ _ _ _ (omega arith) (omega arith) _ (c .before .before .before .before .before .before .before .before .before .is-bad .ensures) (c .before .before .before .before .before .before .before .before .if3 .left) _ (c .before .before .before .before .before .before .before .is-bad2 .ensures) (c .before .before .before .before .before .before .if4 .left) _ (c .before .before .before .before .before .is-fresh .ensures) (c .before .before .before .before .if5 .left) _ (c .before .before .before .is-fresh2 .ensures) (c .before .before .if6 .left) _ (c .before .matches .ensures) (c .if7 .taken)
+returns-7 c = way-resumed _ _ _ _ _ _ _ (omega arith) (omega arith) _ (c .before .before .before .before .before .before .before .before .before .before .before .is-bad .ensures) (c .before .before .before .before .before .before .before .before .before .before .if3 .left) _ (c .before .before .before .before .before .before .before .before .before .is-bad2 .ensures) (c .before .before .before .before .before .before .before .before .if4 .left) _ (c .before .before .before .before .before .before .before .is-fresh .ensures) (c .before .before .before .before .before .before .if5 .left) _ (c .before .before .before .before .before .is-fresh2 .ensures) (c .before .before .before .before .if6 .left) _ (c .before .matches .ensures) (c .if7 .taken)
 
 returns-8 : tie.Need-returns-8
-returns-8 c = way-no-match _ _ _ _ _ _ _ (omega arith) (omega arith) _ (c .before .before .before .before .before .before .before .before .before .is-bad .ensures) (c .before .before .before .before .before .before .before .before .if3 .left) _ (c .before .before .before .before .before .before .before .is-bad2 .ensures) (c .before .before .before .before .before .before .if4 .left) _ (c .before .before .before .before .before .is-fresh .ensures) (c .before .before .before .before .if5 .left) _ (c .before .before .before .is-fresh2 .ensures) (c .before .before .if6 .left) _ (c .before .matches .ensures) (c .if7 .left)
+returns-8 c = way-no-match _ _ _ _ _ _ _ (omega arith) (omega arith) _ (c .before .before .before .before .before .before .before .before .before .before .before .is-bad .ensures) (c .before .before .before .before .before .before .before .before .before .before .if3 .left) _ (c .before .before .before .before .before .before .before .before .before .is-bad2 .ensures) (c .before .before .before .before .before .before .before .before .if4 .left) _ (c .before .before .before .before .before .before .before .is-fresh .ensures) (c .before .before .before .before .before .before .if5 .left) _ (c .before .before .before .before .before .is-fresh2 .ensures) (c .before .before .before .before .if6 .left) _ (c .before .matches .ensures) (c .if7 .left)
 
 pub way-of-spec : {M : Type 1} → statement M
 way-of-spec =
@@ -58,6 +64,8 @@ way-of-spec =
     returns-5
     is-fresh-requires-2
     returns-6
+    cast-matches
+    cast-matches-2
     matches-requires
     returns-7
     returns-8)
