@@ -5,6 +5,7 @@ use mathlib.Core.Bool.{Bool, true, false, cond, not, _&&_, _||_}
 use mathlib.Core.Option.{Option, none, some}
 use lib.Dec.{ltb, leb, eqb}
 use lib.ListN.{length}
+use Rattle.refusals.specs.Rows.{marked}
 use Rattle.eno.specs.Tep.{isKnown}
 use Rattle.eno.specs.Session.{inHand}
 use Rattle.eno.specs.Option.{isListed, offered, optionWith}
@@ -161,11 +162,6 @@ number16 v count = false
 -- the rows, by number
 unfoldable pub rows : Bool → Seen → Ask → List (Bool × ℕ)
 rows free v k = (number2 k, 2) ∷ (number3 k, 3) ∷ (number4 v k, 4) ∷ (number5 v k, 5) ∷ (number6 free v k, 6) ∷ (number7 v k, 7) ∷ (number16 v k, 16) ∷ []
-
--- a row's number applies
-unfoldable pub marked : ℕ → List (Bool × ℕ) → Bool
-marked n [] = false
-marked n (t ∷ l) = t .0 && eqb (t .1) n || marked n l
 
 unfoldable pub applies : Bool → Seen → Ask → ℕ → Bool
 applies free v k n = marked n (rows free v k)

@@ -1,12 +1,13 @@
 -- What a call gives back and what it changes; refusals, lowest number first.
 use Prim.Native.Nat.{ℕ}
-use mathlib.Core.List.{List, [], _∷_}
-use mathlib.Core.Bool.{Bool, true, false, cond}
+use mathlib.Core.List.{List, []}
+use mathlib.Core.Bool.{Bool}
 use mathlib.Core.Option.{Option, none, some}
 use Rattle.eno.specs.Judge.{Way}
 use Rattle.eno.specs.declared.SessionRecord.{SessionRecord}
 use Rattle.door.specs.Door.{Phase, Seen}
 use Rattle.door.specs.declared.Door.{Door}
+unfoldable pub use Rattle.refusals.specs.Rows.{refusal}
 
 -- the reply, in document 01's numbers and values
 pub data Reply : Type 0 where
@@ -39,11 +40,6 @@ pub record Outcome : Type 0 where
 -- a refusal leaves everything as found
 abbrev pub refuse : ℕ → Door → List ℕ → Outcome
 refuse n d s = record { reply = refused n; buffer = s; door = d; effect = keep }
-
--- the number of the first test that holds
-unfoldable pub refusal : List (Bool × ℕ) → Option ℕ
-refusal [] = none
-refusal (t ∷ l) = cond (t .0) (some (t .1)) (refusal l)
 
 -- what a call does unless it is refused
 unfoldable pub unless : Option ℕ → Door → List ℕ → Outcome → Outcome

@@ -1,15 +1,15 @@
 -- Demand 1 for one door: a refusal changes nothing, and a reply is `refused n` exactly when n is the least number of the table that applies.
-use Prim.Native.Nat.{ℕ, _≤_, _<_}
+use Prim.Native.Nat.{ℕ}
 use mathlib.Core.Path.{_≡_, refl, sym, _∙_, ap}
-use mathlib.Core.List.{List, [], _∷_}
-use mathlib.Core.Bool.{Bool, true, false, cond, _&&_, _||_, false≢true, true≢false}
+use mathlib.Core.List.{List, []}
+use mathlib.Core.Bool.{Bool, true, false, cond}
 use mathlib.Core.Option.{Option, none, some}
 use mathlib.Core.Logic.{_↔_}
 use native.Mathlib.Omega.{arith}
-use native.Mathlib.Decide.{decLt, ℕ-discrete}
-use borrow.Author.Tests.{eq-eqb, ne-eqb}
 use lib.Dec.{eqb}
 use lib.ListN.{length}
+use Rattle.refusals.specs.Rows.{Rising, Least}
+use Rattle.refusals.specs.RowLaws.{first-is-least}
 use Rattle.eno.specs.Tep.{isKnown}
 use Rattle.door.specs.Door.{Phase, idle, offering, crossed, answering, opened, unencrypted, phaseOf, transcriptOf, Seen}
 use Rattle.door.specs.Outcome.{Reply, refused, written, plain, nowIn, encrypted, done, holds, Outcome, keep, refusal, unless}
@@ -19,7 +19,7 @@ use Rattle.door.specs.Answer.{answerWith, plainFor, with}
 use Rattle.door.specs.Receive as r
 use Rattle.door.specs.Receive.{turn, isOpen, nowSays}
 use Rattle.door.specs.Records as k
-use Rattle.door.specs.Numbered.{areaOf, number2, number3, outOfTurnIn, number4, lentOf, toWrite, number5, number6, number7, number16, rows, marked, applies}
+use Rattle.door.specs.Numbered.{areaOf, number2, number3, outOfTurnIn, number4, lentOf, toWrite, number5, number6, number7, number16, rows, applies}
 use Rattle.door.specs.Calls.{Ask, offer, answer, receive, resend, result, close, store, forget, count, outcome}
 use Rattle.door.specs.declared.Door.{Door}
 use Rattle.door.specs.SameTests.{answer-terms, offer-terms, record-terms, forget-step, idle-turn, send-turn, result-turn, result-room, receive-turn}
@@ -103,59 +103,6 @@ refused-by-rows free v (store t role identifier secret) = told (v .door) [] _ re
 refused-by-rows free v (forget t identifier) = told (v .door) [] _ refl _ ∙ rw (forget-step (isKnown t) (eqb (length identifier) 18))
 refused-by-rows free v count = refl
 
--- n is the least number that applies
-pub record Least (free : Bool) (v : Seen) (q : Ask) (n : ℕ) : Type 0 where
-  pub this : applies free v q n ≡ true
-  pub none-below : (m : ℕ) → m < n → applies free v q m ≡ false
-
--- rows in the order of their numbers
-abbrev Rising : ℕ → List (Bool × ℕ) → Type 0
-Rising n [] = Unit {0}
-Rising n (t ∷ l) = (n < t .1) × Rising (t .1) l
-
-marked-above : (l : List (Bool × ℕ)) (n m : ℕ) → Rising n l → m ≤ n → marked m l ≡ false
-unfolding marked
-marked-above [] n m r h = refl
-marked-above (t ∷ l) n m r h =
-    let other : t .1 ≡ m → ⊥ = λ e. omega arith in
-    rw (ne-eqb _ _ other) (go (t .0) (marked-above l (t .1) m (r .1) (omega arith)))
-  where
-    go : (b : Bool) → marked m l ≡ false → b && false || marked m l ≡ false
-    go true e = e
-    go false e = e
-
-module _ (l : List (Bool × ℕ)) (n : ℕ) where
-  abbrev First : Type 0
-  First = (marked n l ≡ true) × ((m : ℕ) → m < n → marked m l ≡ false)
-
-first-is : (l : List (Bool × ℕ)) (k n : ℕ) → Rising k l → refusal l ≡ some n → First l n
-unfolding refusal marked
-first-is [] k n r e = let z : _≡_ {A = ℕ} 0 1 = cc in absurd (omega arith)
-first-is (t ∷ l) k n r e = go (λ q. first-is l (t .1) n (r .1) q) (t .0) e
-  where
-    go : (refusal l ≡ some n → First l n) → (b : Bool) → cond b (some (t .1)) (refusal l) ≡ some n → (b && eqb (t .1) n || marked n l ≡ true) × ((m : ℕ) → m < n → b && eqb (t .1) m || marked m l ≡ false)
-    go again true e =
-        let q : t .1 ≡ n = cc in
-        (rw (eq-eqb _ _ q), λ m h. let other : t .1 ≡ m → ⊥ = λ z. omega arith in rw (ne-eqb _ _ other) (marked-above l (t .1) m (r .1) (omega arith)))
-    go again false e = again e
-
-is-first : (l : List (Bool × ℕ)) (k n : ℕ) → Rising k l → First l n → refusal l ≡ some n
-unfolding refusal marked
-is-first [] k n r f = absurd (false≢true (f .0))
-is-first (t ∷ l) k n r f = go (λ q. is-first l (t .1) n (r .1) q) (t .0) f
-  where
-    go : (First l n → refusal l ≡ some n) → (b : Bool) → (b && eqb (t .1) n || marked n l ≡ true) × ((m : ℕ) → m < n → b && eqb (t .1) m || marked m l ≡ false) → cond b (some (t .1)) (refusal l) ≡ some n
-    go again true g = elim (ℕ-discrete (t .1) n) [
-      | yes e ↦ ap (λ x. some x) e
-      | no e ↦ elim (decLt (t .1) n) [
-        | yes h ↦ let z : eqb (t .1) (t .1) || marked (t .1) l ≡ false = g .1 (t .1) h in absurd (true≢false (sym (rw (eq-eqb (t .1) (t .1) refl)) ∙ z))
-        | no h ↦ let z : eqb (t .1) n || marked n l ≡ true = g .0 in
-            let y : marked n l ≡ false = marked-above l (t .1) n (r .1) (omega arith) in
-            absurd (false≢true (sym (rw (ne-eqb _ _ e, y)) ∙ z))
-      ]
-    ]
-    go again false g = again g
-
 rows-rise : (free : Bool) (v : Seen) (q : Ask) → Rising 0 (rows free v q)
 unfolding rows
 rows-rise free v q = (omega arith, (omega arith, (omega arith, (omega arith, (omega arith, (omega arith, (omega arith, tt)))))))
@@ -170,11 +117,10 @@ refused-back done n e = let z : _≡_ {A = ℕ} 0 1 = cc in absurd (omega arith)
 refused-back (holds m) n e = let z : _≡_ {A = ℕ} 0 1 = cc in absurd (omega arith)
 
 -- the reply is `refused n` exactly when n is the least number that applies; so no other number occurs
-pub refused-exactly : (free : Bool) (v : Seen) (q : Ask) (n : ℕ) → (outcome free v q .reply ≡ refused n) ↔ Least free v q n
+pub refused-exactly : (free : Bool) (v : Seen) (q : Ask) (n : ℕ) → (outcome free v q .reply ≡ refused n) ↔ Least (applies free v q) n
 unfolding applies
-refused-exactly free v q n = (
-  λ e.
-      let f = first-is (rows free v q) 0 n (rows-rise free v q) (sym (refused-by-rows free v q) ∙ ap refusedBy e) in
-      record { this = f .0; none-below = f .1 },
-  λ l. refused-back (outcome free v q .reply) n (refused-by-rows free v q ∙ is-first (rows free v q) 0 n (rows-rise free v q) (l .this, l .none-below)),
-)
+refused-exactly free v q n =
+    let first = first-is-least (rows free v q) 0 (rows-rise free v q) n in (
+      λ e. first .0 (sym (refused-by-rows free v q) ∙ ap refusedBy e),
+      λ l. refused-back (outcome free v q .reply) n (refused-by-rows free v q ∙ first .1 l),
+    )

@@ -10,8 +10,9 @@ use lib.Dec.{ltb}
 use lib.ListN.{length, set}
 use lib.Seq.{set-getD}
 use Rattle.door.specs.Outcome.{Reply, refused, done, keep, Outcome}
-use Rattle.door.specs.Numbered.{lentOf}
-use Rattle.door.specs.Refusals.{AsFound, refusal-changes-nothing, Least, refused-exactly}
+use Rattle.refusals.specs.Rows.{Least}
+use Rattle.door.specs.Numbered.{lentOf, applies}
+use Rattle.door.specs.Refusals.{AsFound, refusal-changes-nothing, refused-exactly}
 use Rattle.door.specs.Calls.{Ask, outcome}
 use Rattle.door.specs.declared.Door.{Door}
 use Rattle.unit.specs.Numbers.{doorsN}
@@ -62,7 +63,7 @@ refusal-leaves u (on d a) n e = let f = step-as-found (ltb d doorsN) u d a n e i
 -- number 1 applies to a door that is not ours; at every unit that calls reach from the empty one the other numbers apply as a door's do
 pub data LeastOf (u : LinkUnit) (d : ℕ) (a : Ask) : ℕ → Type 0 where
   no-door : doorsN ≤ d → LeastOf u d a 1
-  of-door : {n : ℕ} → d < doorsN → Least true (view u d) a n → LeastOf u d a n
+  of-door : {n : ℕ} → d < doorsN → Least (applies true (view u d) a) n → LeastOf u d a n
 
 reached-exactly : (b : Bool) (u : LinkUnit) (d : ℕ) (a : Ask) (n : ℕ) → ltb d doorsN ≡ b → Inv u → step u (on d a) .told .reply ≡ refused n → LeastOf u d a n
 unfolding step stepOn
