@@ -13,11 +13,11 @@ use Rattle.generation.specs.declared.GenerationRecord.{GenerationRecord}
 
 -- as first written: a rekey frame is owed whenever local is above last-used
 unfoldable pub outcomeAsWritten : GenerationRecord → Ask → Outcome
-outcomeAsWritten g (send fin) = outcome g (send fin)
+outcomeAsWritten g (send fin) = unless (refusal ((isAbove g && wouldPass (g .last), 13) ∷ (g .fin, 14) ∷ [])) g (sending g fin)
 outcomeAsWritten g (initiate has-data fin) =
     unless (refusal ((isAbove g, 4) ∷ (wouldPass (g .local), 13) ∷ (g .fin, 14) ∷ (not has-data && ltb (g .remote) (g .local), 15) ∷ [])) g
     (sending (raised g) fin)
-outcomeAsWritten g (receive rekey) = outcome g (receive rekey)
+outcomeAsWritten g (receive rekey) = unless (refusal ((rekey && wouldPass (g .remote), 13) ∷ [])) g (receiving g rekey)
 
 -- what moves: after FINp, where initiating gave 4, it gives the lowest other number
 pub record Moved (g : GenerationRecord) (k : Ask) : Type 0 where
@@ -74,7 +74,7 @@ module _ (g : GenerationRecord) (has-data fin : Bool) where
 
 -- before FINp nothing changes
 pub before-fin : (g : GenerationRecord) → g .fin ≡ false → (owed g ≡ isAbove g) × ((k : Ask) → outcome g k ≡ outcomeAsWritten g k)
-unfolding outcomeAsWritten
+unfolding outcome outcomeAsWritten
 before-fin g e = (owed-before g e, same)
   where
     same : (k : Ask) → outcome g k ≡ outcomeAsWritten g k
@@ -84,7 +84,7 @@ before-fin g e = (owed-before g e, same)
 
 -- and of the refusals only this moves
 pub only-this-moves : (g : GenerationRecord) (k : Ask) → (outcome g k ≡ outcomeAsWritten g k) ⊎ Moved g k
-unfolding outcomeAsWritten
+unfolding outcome outcomeAsWritten
 only-this-moves g (send fin) = inl refl
 only-this-moves g (initiate has-data fin) = go (g .fin) (isAbove g) refl refl
   where
