@@ -63,7 +63,7 @@ enum {
     DOOR_LINK_NO_DOOR = 1,        /* door above 23 */
     DOOR_LINK_AREA_TOO_LONG = 2,  /* option area above 40 bytes */
     DOOR_LINK_UNFIT = 3,          /* an argument that does not fit: see each call */
-    DOOR_LINK_OUT_OF_TURN = 4,    /* not in this phase; not while a rekey frame is owed */
+    DOOR_LINK_OUT_OF_TURN = 4,    /* not in this phase; not while a rekey frame is owed (before FINp) */
     DOOR_LINK_NO_ROOM = 5,        /* lent buffer shorter than what is to be written */
     DOOR_LINK_FULL = 6,           /* the door holds four session records */
     DOOR_LINK_ALREADY_HELD = 7,   /* the door holds, or has in hand, a record of this TEP and identifier */

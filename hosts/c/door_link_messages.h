@@ -157,7 +157,7 @@ struct door_link_plaintext_reply door_link_plaintext_read(const uint8_t *bytes, 
 
 /* The generation record of a connection. Begin with door_link_first_record and change it by the calls alone; `fin` is C's bool, 0 or 1. */
 struct door_link_generations {
-    uint16_t local;  /* how often this end has gone on to new keys, or owes it */
+    uint16_t local;  /* how often this end has gone on to new keys, or owes it; after FINp it only follows `remote` */
     uint16_t remote; /* generation of the other side's frames */
     uint16_t last;   /* generation of the frame that was sent last */
     bool fin;        /* a frame with FINp was sent */
@@ -174,7 +174,7 @@ struct door_link_generation_step {
 /* The record of a new connection, fresh or resumed: generation 0. */
 struct door_link_generations door_link_first_record(void);
 
-/* Whether a frame with rekey is owed: then send one soon, with data or without. */
+/* Whether a frame with rekey is owed: then send one soon, with data or without. After FINp nothing is owed, though `local` still follows. */
 bool door_link_is_owed(struct door_link_generations g);
 
 /* A frame is to be sent, with FINp or without: `number` is the generation whose keys cipher it. Pays what is owed.
@@ -183,7 +183,7 @@ struct door_link_generation_step door_link_send(struct door_link_generations g, 
 
 /* This end goes on to new keys: the same as door_link_send, for a frame of the next generation.
  *   has_data  whether the frame carries data
- * Replies: SENT. Refused: 4 while a rekey frame is owed; 13; 14; 15. */
+ * Replies: SENT. Refused: 4 while a rekey frame is owed, so never after FINp; 13; 14; 15. */
 struct door_link_generation_step door_link_initiate(struct door_link_generations g, bool has_data, bool fin);
 
 /* A frame came, with rekey or without, as its header says: `number` is the generation whose keys open it. Keep the later record once the tag was good, and the

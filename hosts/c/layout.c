@@ -192,6 +192,7 @@ static void generations(void) {
     EXPECT(step.kind == DOOR_LINK_RECEIVED && step.number == 0x0305 && step.rekey == 0 && has(step.next, 0x0506, 0x0305, 0x0103, true));
     step = door_link_send(step.next, false);
     EXPECT(step.kind == DOOR_LINK_REFUSED && step.number == DOOR_LINK_FINISHED && step.rekey == 0 && has(step.next, 0x0506, 0x0305, 0x0103, true));
+    EXPECT(!door_link_is_owed(step.next) && door_link_initiate(step.next, true, false).number == DOOR_LINK_FINISHED);
     g.last = g.local;
     step = door_link_initiate(g, true, false);
     EXPECT(step.kind == DOOR_LINK_SENT && step.number == 0x0507 && step.rekey == 1 && has(step.next, 0x0507, 0x0304, 0x0507, false));

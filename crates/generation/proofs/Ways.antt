@@ -6,7 +6,7 @@ use native.Mathlib.Omega.{arith}
 use borrow.Author.Tests.{lt-ltb, le-ltb, ltb-true}
 use lib.Dec.{ltb}
 use Rattle.refusals.specs.Rows.{refusal}
-use Rattle.generation.specs.Steps.{send, initiate, receive, mostGeneration, owed, sending, raised, following, receiving, unless, wouldPass, outcome}
+use Rattle.generation.specs.Steps.{send, initiate, receive, mostGeneration, isAbove, owed, sending, raised, following, receiving, unless, wouldPass, outcome}
 use Rattle.generation.specs.Answers.{stepOf}
 use Rattle.generation.specs.declared.GenerationRecord.{GenerationRecord}
 use Rattle.generation.specs.declared.GenerationReply.the-variants as a
@@ -28,21 +28,30 @@ pub unanswered-none : (b c : Bool) → b ≡ false → c ≡ not b && c
 unanswered-none b c e = rw e
 
 module _ (g : GenerationRecord) where
+  -- what is owed
+  pub owed-above : isAbove g ≡ true → not (g .fin) ≡ owed g
+  unfolding owed
+  owed-above e = rw e
+
+  pub owed-not : isAbove g ≡ false → false ≡ owed g
+  unfolding owed
+  owed-not e = rw e
+
   -- sending one frame
   pub one-more : (fin : Bool) (n : ℕ) → g .last < g .local → n ≡ g .last + 1
       → stepOf (record { next = record { local = g .local; remote = g .remote; last = n; fin = fin }; reply = a.Sent n true }) ≡ sending g fin
-  unfolding sending owed
+  unfolding sending isAbove
   one-more fin n h e = ap (λ k. stepOf (record { next = record { local = g .local; remote = g .remote; last = k; fin = fin }; reply = a.Sent k true })) e ∙ (rw (lt-ltb _ _ h))
 
   pub one-same : (fin : Bool) → g .local ≤ g .last
       → stepOf (record { next = record { local = g .local; remote = g .remote; last = g .last; fin = fin }; reply = a.Sent (g .last) false }) ≡ sending g fin
-  unfolding sending owed
+  unfolding sending isAbove
   one-same fin h = rw (le-ltb _ _ h)
 
   -- no send passes 65,535, since local does not
   module _ (most : g .local ≤ 65535) where
-    pub never-passes : owed g && wouldPass (g .last) ≡ false
-    unfolding owed
+    pub never-passes : isAbove g && wouldPass (g .last) ≡ false
+    unfolding isAbove
     never-passes = go (ltb (g .last) (g .local)) refl
       where
         go : (b : Bool) → ltb (g .last) (g .local) ≡ b → b && wouldPass (g .last) ≡ false

@@ -8,7 +8,7 @@ use native.Mathlib.Omega.{arith}
 use borrow.Author.Tests.{ltb-true, ltb-false}
 use lib.Dec.{ltb}
 use Rattle.refusals.specs.Rows.{refusal}
-use Rattle.generation.specs.Steps.{Reply, refused, sent, received, Outcome, Ask, send, initiate, receive, first, mostGeneration, owed, sending, raised, following, receiving, unless, wouldPass, outcome}
+use Rattle.generation.specs.Steps.{Reply, refused, sent, received, Outcome, Ask, send, initiate, receive, first, mostGeneration, isAbove, sending, raised, following, receiving, unless, wouldPass, outcome}
 use Rattle.generation.specs.declared.GenerationRecord.{GenerationRecord}
 
 -- the record after a list of steps
@@ -123,7 +123,7 @@ abbrev Unmoved : GenerationRecord → Outcome
 Unmoved g = record { reply = received (g .remote); next = g }
 
 sending-law : (P : Outcome → Type 0) (g : GenerationRecord) (fin : Bool) → (g .last < g .local → P (Raised g fin)) → (g .local ≤ g .last → P (Same g fin)) → P (sending g fin)
-unfolding sending owed
+unfolding sending isAbove
 sending-law P g fin up same = go (ltb (g .last) (g .local)) refl
   where
     go : (b : Bool) → ltb (g .last) (g .local) ≡ b → P (cond b (Raised g fin) (Same g fin))

@@ -4,4 +4,5 @@ pub mod Answers
 pub mod Numbered
 pub mod Refusals
 pub mod Connection
+pub mod AfterFin
 pub mod RunTable

@@ -10,7 +10,7 @@ use Rattle.generation.specs.declared.GenerationRecord.{GenerationRecord}
 -- 4: initiating while a rekey frame is owed
 unfoldable pub number4 : GenerationRecord → Ask → Bool
 number4 g (send fin) = false
-number4 g (initiate has-data fin) = ltb (g .last) (g .local)
+number4 g (initiate has-data fin) = ltb (g .last) (g .local) && not (g .fin)
 number4 g (receive rekey) = false
 
 -- 13: a generation would pass 65,535

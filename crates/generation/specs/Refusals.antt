@@ -9,7 +9,7 @@ use borrow.Author.Tests.{le-ltb, ltb-true}
 use lib.Dec.{ltb}
 use Rattle.refusals.specs.Rows.{refusal, Rising, Least}
 use Rattle.refusals.specs.RowLaws.{first-is-least}
-use Rattle.generation.specs.Steps.{Reply, refused, sent, received, Outcome, Ask, send, initiate, receive, mostGeneration, owed, sending, receiving, unless, wouldPass, outcome}
+use Rattle.generation.specs.Steps.{Reply, refused, sent, received, Outcome, Ask, send, initiate, receive, mostGeneration, isAbove, owed, sending, receiving, unless, wouldPass, outcome}
 use Rattle.generation.specs.Numbered.{number4, number13, number14, number15, rows, applies}
 use Rattle.generation.specs.declared.GenerationRecord.{GenerationRecord}
 
@@ -25,7 +25,7 @@ either-taken false x y p q = q
 
 sending-taken : (g : GenerationRecord) (fin : Bool) → refusedBy (sending g fin .reply) ≡ none
 unfolding sending
-sending-taken g fin = either-taken (owed g) _ _ refl refl
+sending-taken g fin = either-taken (isAbove g) _ _ refl refl
 
 receiving-taken : (g : GenerationRecord) (rekey : Bool) → refusedBy (receiving g rekey .reply) ≡ none
 unfolding receiving
@@ -51,7 +51,7 @@ refusal-changes-nothing g (receive rekey) n e = kept g _ (receiving-taken g reke
 
 -- the reply is refused by the first row that applies
 refused-by-rows : (g : GenerationRecord) (k : Ask) → refusedBy (outcome g k .reply) ≡ refusal (rows g k)
-unfolding outcome rows number4 number13 number14 number15 refusal owed wouldPass mostGeneration
+unfolding outcome rows number4 number13 number14 number15 refusal owed isAbove wouldPass mostGeneration
 refused-by-rows g (send fin) = told g _ (sending-taken g fin) _
 refused-by-rows g (initiate has-data fin) = told g _ (sending-taken _ fin) _
 refused-by-rows g (receive rekey) = told g _ (receiving-taken g rekey) _

@@ -34,14 +34,18 @@ first = record { local = 0; remote = 0; last = 0; fin = false }
 unfoldable pub mostGeneration : ℕ
 mostGeneration = 65535
 
--- a rekey frame is owed whenever local is above last-used
+-- local is above last-used
+unfoldable pub isAbove : GenerationRecord → Bool
+isAbove g = ltb (g .last) (g .local)
+
+-- a rekey frame is owed while local is above last-used and FINp was not sent (RFC 8548, 3.8; change request iii)
 unfoldable pub owed : GenerationRecord → Bool
-owed g = ltb (g .last) (g .local)
+owed g = isAbove g && not (g .fin)
 
 -- a sent frame uses last-used + 1 and rekey = 1 if local is above last-used, else last-used and rekey = 0
 unfoldable pub sending : GenerationRecord → Bool → Outcome
 sending g fin =
-    cond (owed g)
+    cond (isAbove g)
     (record { reply = sent (g .last + 1) true; next = record { local = g .local; remote = g .remote; last = g .last + 1; fin = fin } })
     (record { reply = sent (g .last) false; next = record { local = g .local; remote = g .remote; last = g .last; fin = fin } })
 
@@ -70,7 +74,7 @@ unfoldable pub wouldPass : ℕ → Bool
 wouldPass n = ltb mostGeneration (n + 1)
 
 unfoldable pub outcome : GenerationRecord → Ask → Outcome
-outcome g (send fin) = unless (refusal ((owed g && wouldPass (g .last), 13) ∷ (g .fin, 14) ∷ [])) g (sending g fin)
+outcome g (send fin) = unless (refusal ((isAbove g && wouldPass (g .last), 13) ∷ (g .fin, 14) ∷ [])) g (sending g fin)
 outcome g (initiate has-data fin) =
     unless (refusal ((owed g, 4) ∷ (wouldPass (g .local), 13) ∷ (g .fin, 14) ∷ (not has-data && ltb (g .remote) (g .local), 15) ∷ [])) g
     (sending (raised g) fin)

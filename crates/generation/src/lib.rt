@@ -48,7 +48,9 @@ pub fn first_record() -> GenerationRecord
 pub fn is_owed(g: GenerationRecord) -> bool
     ensures { λ r. ⌜ r ≡ owed g ⌝ }
 {
-    g.last < g.local
+    let finished = g.fin;
+    let above = g.last < g.local;
+    if above { !finished } else { false }
 }
 
 // One frame is sent; FINp was not sent before.

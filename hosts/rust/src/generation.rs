@@ -18,12 +18,18 @@ use crate::{ffi, Error};
 /// assert_eq!(generations.send(true)?, Sent { generation: 1, rekey: true });
 /// assert_eq!(generations, Generations { local: 1, remote: 1, last: 1, fin: true });
 /// assert_eq!(generations.send(false), Err(Error::Refused(Refusal::Finished)));
+///
+/// // After FINp this end still follows, and owes nothing.
+/// assert_eq!(generations.receive(true)?, 2);
+/// assert_eq!(generations, Generations { local: 2, remote: 2, last: 1, fin: true });
+/// assert!(!generations.is_owed()?);
+/// assert_eq!(generations.initiate(true, false), Err(Error::Refused(Refusal::Finished)));
 /// # Ok(())
 /// # }
 /// ```
 #[derive(Clone, Copy, PartialEq, Eq, Default, Debug)]
 pub struct Generations {
-    /// The generation that this end is to send with.
+    /// The generation that this end is to send with, while it may send.
     pub local: u16,
     /// The generation that the other end sends with.
     pub remote: u16,
@@ -61,7 +67,7 @@ impl Generations {
 
     /// This end begins the next generation, and sends one frame, with data or without, with FINp or without.
     ///
-    /// Refused: 4 where a rekey frame is owed; 13; 14; 15 without data while `remote` is below `local`.
+    /// Refused: 4 where a rekey frame is owed, so never after FINp; 13; 14; 15 without data while `remote` is below `local`.
     #[inline]
     pub fn initiate(&mut self, has_data: bool, fin: bool) -> Result<Sent, Error> {
         let (next, sent) = sent(&ffi::generation::initiate(*self, has_data, fin), *self)?;
@@ -79,7 +85,7 @@ impl Generations {
         Ok(generation)
     }
 
-    /// Whether a rekey frame is owed: `local` is above `last`. Never refused.
+    /// Whether a rekey frame is owed: `local` is above `last`, and FINp was not sent. Never refused.
     #[inline]
     pub fn is_owed(&self) -> Result<bool, Error> {
         flag(ffi::generation::is_owed(*self))

@@ -25,7 +25,7 @@ pub enum Refusal {
     AreaTooLong = 2,
     /// An argument does not fit: each call says which.
     Unfit = 3,
-    /// The call is not for the phase that the door is in; or a rekey frame is owed, so that none may be begun.
+    /// The call is not for the phase that the door is in; or a rekey frame is owed (FINp was not sent), so that none may be begun.
     OutOfTurn = 4,
     /// The lent buffer is shorter than what is to be written.
     NoRoom = 5,

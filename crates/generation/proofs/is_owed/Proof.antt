@@ -1,12 +1,16 @@
 -- `generation::is_owed` meets its contract.
-use mathlib.Core.Path.{refl}
-use Rattle.generation.specs.Steps.{owed}
+use Rattle.generation.specs.Steps.{isAbove}
+use Rattle.generation.proofs.Ways.{owed-above, owed-not}
 use Rattle.generation.proofs.is_owed.Statement.{statement}
 use Rattle.generation.proofs.is_owed.Tie as tie
 
 returns : tie.Need-returns
-unfolding owed
-returns c = refl
+unfolding isAbove
+returns c = owed-above _ (c .if1 .taken)
+
+returns-2 : tie.Need-returns-2
+unfolding isAbove
+returns-2 c = owed-not _ (c .if1 .left)
 
 pub is-owed-spec : {M : Type 1} → statement M
-is-owed-spec = tie.close (tie.spec returns)
+is-owed-spec = tie.close (tie.spec returns returns-2)

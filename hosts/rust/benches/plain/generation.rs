@@ -20,12 +20,12 @@ impl Record {
 
     #[inline(never)]
     pub fn is_owed(&self) -> bool {
-        self.local > self.last
+        self.local > self.last && !self.fin
     }
 
     /// The generation and the rekey bit of the next frame.
     fn frame(&mut self, fin: bool) -> (u16, bool) {
-        let rekey = self.is_owed();
+        let rekey = self.local > self.last;
         self.last += u16::from(rekey);
         self.fin |= fin;
         (self.last, rekey)

@@ -1,4 +1,4 @@
-//! Generations and rekeying (document 01, "Frames and generations"; RFC 8548, 3.8).
+//! Generations and rekeying (document 01, "Frames and generations", as change request iii left it; RFC 8548, 3.8).
 
 use crate::driver::calls::{Answer, Generations, Sent};
 
@@ -11,13 +11,14 @@ pub fn start() -> Generations {
     }
 }
 
+/// Whether a rekey frame is owed: never after FINp.
 pub fn owed(record: &Generations) -> bool {
-    record.local > record.last
+    record.local > record.last && !record.fin
 }
 
 /// The frame that is sent next, FINp or not.
 fn frame(record: &mut Generations, fin: bool) -> Sent {
-    let rekey = owed(record);
+    let rekey = record.local > record.last;
     if rekey {
         record.last += 1;
     }
@@ -109,10 +110,12 @@ mod tests {
         );
         assert_eq!(
             initiate(&mut of(0xffff, 0xffff, 0, true), false, false),
-            Err(4)
+            Err(13)
         );
-        assert_eq!(initiate(&mut of(1, 1, 0, true), true, false), Err(4));
+        assert_eq!(initiate(&mut of(1, 1, 0, true), true, false), Err(14));
+        assert_eq!(initiate(&mut of(1, 1, 0, false), true, false), Err(4));
         assert_eq!(initiate(&mut of(1, 0, 1, true), false, false), Err(14));
+        assert_eq!(initiate(&mut of(3, 5, 10, true), false, false), Err(14));
         let mut g = of(7, 0xffff, 7, false);
         assert_eq!(receive_frame(&mut g, true), Err(13));
         assert_eq!(receive_frame(&mut g, false), Ok(0xffff));
@@ -130,9 +133,28 @@ mod tests {
         assert_eq!(send(&mut g, false), Err(14));
         assert_eq!(initiate(&mut g, true, false), Err(14));
         assert_eq!(receive_frame(&mut g, true), Ok(1));
-        assert!(owed(&g));
+        assert_eq!(g, of(1, 1, 0, true));
+        assert!(!owed(&g));
+        assert_eq!(initiate(&mut g, true, false), Err(14));
         let mut g = start();
         assert_eq!(initiate(&mut g, false, true), sent(1, true));
         assert_eq!(send(&mut g, false), Err(14));
+    }
+
+    #[test]
+    fn nothing_is_owed_after_fin() {
+        let mut g = of(2, 2, 0, false);
+        assert!(owed(&g));
+        assert_eq!(send(&mut g, true), sent(1, true));
+        assert_eq!(g, of(2, 2, 1, true));
+        assert!(!owed(&g));
+        assert_eq!(receive_frame(&mut g, true), Ok(3));
+        assert_eq!(g, of(3, 3, 1, true));
+        assert!(!owed(&g));
+        let mut g = of(5, 0, 3, true);
+        assert_eq!(receive_frame(&mut g, true), Ok(1));
+        assert_eq!(g, of(5, 1, 3, true));
+        assert!(!owed(&g));
+        assert!(!owed(&of(0xffff, 0xffff, 0, true)));
     }
 }

@@ -44,6 +44,10 @@ enum Fault {
     ChangesWhenRefused,
     /// Owed, whatever was sent.
     AlwaysOwed,
+    /// Owed after FINp too.
+    OwedAfterFin,
+    /// 4 after FINp, where local is above last-used.
+    OwedBeforeFin,
     /// Own option first.
     OwnFirst,
     /// The TEP byte without v.
@@ -209,7 +213,7 @@ impl Rekeying for Wrong {
     }
 
     fn send(&self, record: &mut Generations, fin: bool) -> Answer<Sent> {
-        let jumps = self.is(Fault::Jumps) && Wire.owed(record) && !record.fin;
+        let jumps = self.is(Fault::Jumps) && Wire.owed(record);
         if jumps {
             record.last = record.local - 1;
         }
@@ -226,6 +230,7 @@ impl Rekeying for Wrong {
                 let without = !has_data && record.remote < record.local;
                 Err(if without { 15 } else { 14 })
             }
+            Err(_) if self.is(Fault::OwedBeforeFin) && record.local > record.last => Err(4),
             answer => answer,
         }
     }
@@ -243,7 +248,8 @@ impl Rekeying for Wrong {
     }
 
     fn owed(&self, record: &Generations) -> bool {
-        self.is(Fault::AlwaysOwed) || Wire.owed(record)
+        let above = self.is(Fault::OwedAfterFin) && record.local > record.last;
+        self.is(Fault::AlwaysOwed) || above || Wire.owed(record)
     }
 }
 
@@ -334,6 +340,8 @@ fn wrong_generations_are_seen() {
         Fault::DataBeforeFin,
         Fault::ChangesWhenRefused,
         Fault::AlwaysOwed,
+        Fault::OwedAfterFin,
+        Fault::OwedBeforeFin,
     ];
     each_is_seen(&faults, against!(generations::compare));
 }
