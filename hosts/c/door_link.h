@@ -37,7 +37,7 @@ enum {
     DOOR_LINK_TRANSCRIPT = 80,  /* and one of this length for any transcript */
     DOOR_LINK_IDENTIFIER = 18,  /* bytes of a session's identifier */
     DOOR_LINK_SECRET = 32,      /* bytes of a session's secret */
-    DOOR_LINK_UNIT = 8592       /* bytes of a unit */
+    DOOR_LINK_UNIT = 8640       /* bytes of a unit */
 };
 
 /* The TEPs (encryption protocols) that the unit knows, without the bit v (0x80). */
@@ -47,14 +47,14 @@ enum { DOOR_LINK_P256 = 0x21, DOOR_LINK_P521 = 0x22, DOOR_LINK_CURVE25519 = 0x23
 enum {
     DOOR_LINK_REFUSED = 0,    /* the refusal's number, below */
     DOOR_LINK_WRITTEN = 1,    /* bytes written to the lent buffer, from its start */
-    DOOR_LINK_PLAIN = 2,      /* plain TCP: the reason, below */
+    DOOR_LINK_PLAIN = 2,      /* plain TCP: the reason, below; of an unreadable area place and option are given too */
     DOOR_LINK_NOW = 3,        /* the phase that the door is in now, below */
     DOOR_LINK_ENCRYPTED = 4,  /* bytes of the transcript; role, tep and resumed are given too */
     DOOR_LINK_DONE = 5,       /* 0 */
     DOOR_LINK_HOLDS = 6,      /* session records that the door holds */
     DOOR_LINK_FOUND = 7,      /* door_link_find_status: 0 */
     DOOR_LINK_NONE = 8,       /* door_link_find_status: 0 */
-    DOOR_LINK_BROKEN = 9      /* door_link_find_status: 0 */
+    DOOR_LINK_BROKEN = 9      /* door_link_find_status: 0; place and option are given too */
     /* 10 to 16: door_link_messages.h */
 };
 
@@ -76,7 +76,7 @@ enum { DOOR_LINK_IDLE = 0, DOOR_LINK_OFFERED = 1, DOOR_LINK_CROSSED = 2, DOOR_LI
 
 /* Reasons for plain TCP. None is a refusal: the connection goes on without encryption. */
 enum {
-    DOOR_LINK_UNREADABLE = 1,   /* unreadable option area */
+    DOOR_LINK_UNREADABLE = 1,   /* unreadable option area: its place and option say where */
     DOOR_LINK_NO_OPTION = 2,    /* no ENO option */
     DOOR_LINK_ILL_FORMED = 3,   /* ill-formed ENO option */
     DOOR_LINK_EQUAL_ROLES = 4,  /* both sides sent the same b */
@@ -97,6 +97,8 @@ struct door_link_reply {
     uint8_t role;    /* encrypted: this end's role in this connection, 0 host A, 1 host B */
     uint8_t tep;     /* encrypted: the TEP byte as host B sent it, with v: mask with 0x7f to name the TEP */
     uint8_t resumed; /* encrypted: 1 where a session is resumed, 0 where keys are agreed afresh */
+    uint8_t place;   /* BROKEN, and PLAIN with reason 1: where the option begins that makes the area unreadable, 0 to 39 from the area's start; */
+    uint8_t option;  /* and its kind byte, 2 to 255. Its length byte is absent, below 2, or beyond the area's end. */
 };
 
 /* What a call gives back. */
@@ -142,7 +144,7 @@ struct door_link_step door_link_answer(struct door_link_unit unit, size_t door, 
  *   Crossed   SYN+ACK: Open with the same option as before, else Plain. ACK alone: Open with an ENO option, else Plain.
  *   Answered  SYN alone: no change with the same option as before, else Plain. ACK alone: Open with an ENO option, else Plain.
  *   Open, Plain  any segment: no change.
- * Replies: NOW with the phase where it is not Plain; PLAIN with its reason, 1 to 7.
+ * Replies: NOW with the phase where it is not Plain; PLAIN with its reason, 1 to 7, in Plain as it was given before.
  * Refused: 1; 2; 4 for anything else, Idle included. */
 struct door_link_step door_link_receive(struct door_link_unit unit, size_t door, bool syn, bool ack, const uint8_t *area, size_t area_length);
 
@@ -153,7 +155,7 @@ struct door_link_step door_link_resend(struct door_link_unit unit, size_t door, 
 /* What the connection is. Changes nothing and may be asked again.
  * Open: ENCRYPTED, with role, TEP byte and way; writes the transcript (host A's option, then host B's) to out, which 80 bytes always hold; `secret` is the
  * session's where it is resumed. The original role and the nonces of a resumed session are not given: they stand in the transcript.
- * Plain: PLAIN with its reason; nothing is written.
+ * Plain: PLAIN with its reason, and place and option with reason 1; nothing is written.
  * Refused: 1; 4 where the door is neither Open nor Plain; 5 in Open. */
 struct door_link_result_step door_link_result(struct door_link_unit unit, size_t door, uint8_t *out, size_t out_length);
 
@@ -183,7 +185,7 @@ struct door_link_step door_link_count(struct door_link_unit unit, size_t door);
 struct door_link_step door_link_erase(struct door_link_unit unit);
 
 /* Whether a TCP option area, 0 to 40 bytes, has an ENO option; syn says whether it is a SYN's, where two of them count as none.
- * Replies: FOUND; NONE; BROKEN where the area is unreadable. Refused: 2. */
+ * Replies: FOUND; NONE; BROKEN with place and option where the area is unreadable. Refused: 2. */
 struct door_link_reply door_link_find_status(const uint8_t *area, size_t area_length, bool syn);
 
 /* The same calls with the unit behind a pointer: *unit is the unit before, and the unit afterwards when the call returns. Null is allowed for bytes of

@@ -233,7 +233,7 @@ struct door_link_judgement {
 };
 
 /* What two option areas of SYN segments come to, this end's own and the other side's, each 0 to 40 bytes.
- * Replies: ENCRYPTED; PLAIN with reason 1 to 6. Refused: 2. */
+ * Replies: ENCRYPTED; PLAIN with reason 1 to 6. Where both areas are unreadable, place and option are those of the own area. Refused: 2. */
 struct door_link_judgement door_link_judge(const uint8_t *own_area, size_t own_length, const uint8_t *peer_area, size_t peer_length, bool mandatory,
                                            struct door_link_hand hand);
 

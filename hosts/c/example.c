@@ -15,7 +15,13 @@ static void expect(bool holds, int line) {
 #define EXPECT(holds) expect((holds), __LINE__)
 
 static bool says(struct door_link_reply reply, uint8_t kind, size_t number) {
-    return reply.kind == kind && reply.number == number && (kind == DOOR_LINK_ENCRYPTED || (!reply.role && !reply.tep && !reply.resumed));
+    return reply.kind == kind && reply.number == number && (kind == DOOR_LINK_ENCRYPTED || (!reply.role && !reply.tep && !reply.resumed)) && !reply.place &&
+           !reply.option;
+}
+
+/* An unreadable area: the option of kind `option` that begins at `place` makes it so. */
+static bool blames(struct door_link_reply reply, uint8_t kind, size_t number, uint8_t place, uint8_t option) {
+    return reply.kind == kind && reply.number == number && reply.place == place && reply.option == option;
 }
 
 /* An option area as TCP carries it: two bytes of padding, then the option. Gives its length. */
@@ -243,11 +249,17 @@ int main(void) {
     EXPECT(out[0] == 0xee);
     EXPECT(says(door_link_unit_result(&active.unit, 3, NULL, 0, secret), DOOR_LINK_PLAIN, DOOR_LINK_NO_OPTION));
 
+    /* One whose area breaks off in its second option, at place 4: the door says where, and again when it is asked. */
+    static const uint8_t breaks_off[6] = {0x45, 0x04, 0x21, 0x23, 0x08, 0x0a};
+    struct door_link_reply broken = door_link_unit_answer(&active.unit, 4, breaks_off, 6, false, false, &tep, 1, NULL, 0, out, sizeof out);
+    EXPECT(blames(broken, DOOR_LINK_PLAIN, DOOR_LINK_UNREADABLE, 4, 0x08));
+    EXPECT(blames(door_link_unit_result(&active.unit, 4, NULL, 0, secret), DOOR_LINK_PLAIN, DOOR_LINK_UNREADABLE, 4, 0x08));
+
     /* The finder: padding and an option, padding alone, an option that is cut off, too long an area. */
     static const uint8_t cut_off[4] = {0x01, 0x45, 0x03, 0x23};
     EXPECT(says(door_link_find_status(cut_off, 4, true), DOOR_LINK_FOUND, 0));
     EXPECT(says(door_link_find_status(cut_off, 1, true), DOOR_LINK_NONE, 0));
-    EXPECT(says(door_link_find_status(cut_off, 3, true), DOOR_LINK_BROKEN, 0));
+    EXPECT(blames(door_link_find_status(cut_off, 3, true), DOOR_LINK_BROKEN, 0, 1, 0x45));
     EXPECT(says(door_link_find_status(area, sizeof area, false), DOOR_LINK_REFUSED, DOOR_LINK_AREA_TOO_LONG));
 
     /* Erased: as it was made. */

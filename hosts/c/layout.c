@@ -18,10 +18,16 @@ struct in_hand {
     struct session_record session;
 };
 
+struct cause {
+    uint8_t reason;
+    uint8_t place;
+    uint8_t kind;
+};
+
 struct door {
     uint8_t phase;
     bool mandatory;
-    uint8_t reason;
+    struct cause cause;
     uint8_t role;
     uint8_t tep;
     bool resumed;
@@ -48,10 +54,11 @@ _Static_assert(sizeof(bool) == 1 && sizeof(size_t) == 8, "numbers");
 _Static_assert(sizeof(struct session_record) == 52 && _Alignof(struct session_record) == 1, "a session record");
 _Static_assert(offsetof(struct session_record, identifier) == 2 && offsetof(struct session_record, secret) == 20, "a session record's fields");
 _Static_assert(sizeof(struct in_hand) == 53 && offsetof(struct in_hand, session) == 1, "a record in hand");
-_Static_assert(sizeof(struct door) == 141, "a door");
-_Static_assert(offsetof(struct door, own) == 8 && offsetof(struct door, peer) == 48 && offsetof(struct door, hand) == 88, "a door's fields");
-_Static_assert(sizeof(struct position) == 146 && offsetof(struct position, count) == 141 && offsetof(struct position, rows) == 142, "a door in the unit");
-_Static_assert(sizeof(struct unit) == 8592 && _Alignof(struct unit) == 1, "a unit");
+_Static_assert(sizeof(struct cause) == 3 && _Alignof(struct cause) == 1, "a cause");
+_Static_assert(sizeof(struct door) == 143 && offsetof(struct door, cause) == 2 && offsetof(struct door, role) == 5, "a door");
+_Static_assert(offsetof(struct door, own) == 10 && offsetof(struct door, peer) == 50 && offsetof(struct door, hand) == 90, "a door's fields");
+_Static_assert(sizeof(struct position) == 148 && offsetof(struct position, count) == 143 && offsetof(struct position, rows) == 144, "a door in the unit");
+_Static_assert(sizeof(struct unit) == 8640 && _Alignof(struct unit) == 1, "a unit");
 _Static_assert(offsetof(struct unit, rows) == 96 && offsetof(struct unit, doors) == 5088, "a unit's fields");
 
 _Static_assert(sizeof(struct door_link_unit) == sizeof(struct unit) && _Alignof(struct door_link_unit) == 1, "the header's unit");
@@ -59,9 +66,10 @@ _Static_assert(sizeof(struct door_link_reply) == 16 && _Alignof(struct door_link
 _Static_assert(offsetof(struct door_link_reply, number) == 0 && offsetof(struct door_link_reply, kind) == 8, "the header's reply: number, kind");
 _Static_assert(offsetof(struct door_link_reply, role) == 9 && offsetof(struct door_link_reply, tep) == 10, "the header's reply: role, tep");
 _Static_assert(offsetof(struct door_link_reply, resumed) == 11, "the header's reply: resumed");
-_Static_assert(sizeof(struct door_link_step) == 8608 && offsetof(struct door_link_step, reply) == 8592, "the header's step");
-_Static_assert(sizeof(struct door_link_result_step) == 8640 && offsetof(struct door_link_result_step, reply) == 8592, "the header's result");
-_Static_assert(offsetof(struct door_link_result_step, secret) == 8608, "the header's result: secret");
+_Static_assert(offsetof(struct door_link_reply, place) == 12 && offsetof(struct door_link_reply, option) == 13, "the header's reply: place, option");
+_Static_assert(sizeof(struct door_link_step) == 8656 && offsetof(struct door_link_step, reply) == 8640, "the header's step");
+_Static_assert(sizeof(struct door_link_result_step) == 8688 && offsetof(struct door_link_result_step, reply) == 8640, "the header's result");
+_Static_assert(offsetof(struct door_link_result_step, secret) == 8656, "the header's result: secret");
 
 _Static_assert(sizeof(struct door_link_init_reply) == 112 && _Alignof(struct door_link_init_reply) == 8, "an Init message");
 _Static_assert(offsetof(struct door_link_init_reply, number) == 0 && offsetof(struct door_link_init_reply, count) == 8, "an Init message: number, count");
@@ -210,6 +218,7 @@ static void judgement(void) {
     memcpy(peer + 4, hand.session.identifier + 9, 9);
     struct door_link_judgement says = door_link_judge(own, 13, peer, 13, false, hand);
     EXPECT(says.reply.kind == DOOR_LINK_ENCRYPTED && says.reply.number == 26 && says.reply.role == 0 && says.reply.tep == 0xa3 && says.reply.resumed == 1);
+    EXPECT(!says.reply.place && !says.reply.option);
     EXPECT(memcmp(says.transcript, own, 13) == 0 && memcmp(says.transcript + 13, peer, 13) == 0 && all_zero(says.transcript + 26, 54));
     says = door_link_judge(peer, 13, own, 13, false, hand);
     EXPECT(says.reply.kind == DOOR_LINK_PLAIN && says.reply.number == DOOR_LINK_NO_TEP && !says.reply.role && !says.reply.tep && !says.reply.resumed);
@@ -221,6 +230,85 @@ static void judgement(void) {
     EXPECT(says.reply.kind == DOOR_LINK_PLAIN && says.reply.number == DOOR_LINK_NO_TEP && all_zero(says.transcript, sizeof says.transcript));
     says = door_link_judge(own, 13, peer, 13, true, hand);
     EXPECT(says.reply.kind == DOOR_LINK_PLAIN && says.reply.number == DOOR_LINK_NOT_AWARE);
+}
+
+/* An area that is unreadable, and where. */
+struct broken {
+    uint8_t area[40];
+    size_t length;
+    uint8_t place, option;
+};
+
+/* A reply that has no other numbers than these. */
+static bool blames(struct door_link_reply reply, uint8_t kind, size_t number, const struct broken *broken) {
+    return reply.kind == kind && reply.number == number && reply.place == broken->place && reply.option == broken->option && !reply.role && !reply.tep &&
+           !reply.resumed;
+}
+
+/* A door that has become Plain over such an area: the unit keeps the cause, and receive and result give it again. */
+static void stays(struct door_link_unit *unit, size_t door, struct door_link_reply reply, const struct broken *broken) {
+    uint8_t out[80], secret[32];
+    EXPECT(blames(reply, DOOR_LINK_PLAIN, DOOR_LINK_UNREADABLE, broken));
+    const struct cause cause = seen(unit).doors[door].door.cause;
+    EXPECT(cause.reason == DOOR_LINK_UNREADABLE && cause.place == broken->place && cause.kind == broken->option);
+    EXPECT(blames(door_link_unit_receive(unit, door, true, false, NULL, 0), DOOR_LINK_PLAIN, DOOR_LINK_UNREADABLE, broken));
+    for (int i = 0; i < 2; i++)
+        EXPECT(blames(door_link_unit_result(unit, door, out, sizeof out, secret), DOOR_LINK_PLAIN, DOOR_LINK_UNREADABLE, broken));
+    reply = door_link_unit_close(unit, door);
+    EXPECT(reply.kind == DOOR_LINK_DONE && !reply.place && !reply.option);
+}
+
+/* Place and kind in every call that reads an area. */
+static void places(void) {
+    static const uint8_t tep = DOOR_LINK_CURVE25519, syn[3] = {0x45, 3, 0x23}, syn_ack[4] = {0x45, 4, 1, 0x23}, refused[41] = {1};
+    static const struct door_link_hand none = {.held = false};
+    struct broken all[] = {
+        {{0x01, 0x01, 0x02, 0x04, 0x05, 0xb4, 0x08}, 7, 6, 0x08},
+        {{0x45, 0x03, 0x23, 0x02}, 4, 3, 0x02},
+        {{0x45, 0x02, 0x45, 0x02, 0x02, 0x01}, 6, 4, 0x02},
+        {{0x45, 0x01}, 2, 0, 0x45},
+        {{0}, 40, 39, 0x45},
+    };
+    memset(all[4].area, 1, 39);
+    all[4].area[39] = 0x45;
+    struct door_link_unit unit = door_link_new();
+    uint8_t out[40];
+    const size_t door = 21;
+    for (size_t i = 0; i < sizeof all / sizeof all[0]; i++) {
+        const struct broken *broken = &all[i];
+        for (int flag = 0; flag < 2; flag++) {
+            EXPECT(blames(door_link_find_status(broken->area, broken->length, flag), DOOR_LINK_BROKEN, 0, broken));
+            /* Offered, with a SYN and a SYN+ACK. */
+            EXPECT(door_link_unit_offer(&unit, door, 0, false, false, &tep, 1, false, NULL, 0, out, sizeof out).kind == DOOR_LINK_WRITTEN);
+            stays(&unit, door, door_link_unit_receive(&unit, door, true, flag, broken->area, broken->length), broken);
+            /* Crossed, with an ACK and a SYN+ACK. */
+            EXPECT(door_link_unit_offer(&unit, door, 0, false, false, &tep, 1, false, NULL, 0, out, sizeof out).kind == DOOR_LINK_WRITTEN);
+            EXPECT(door_link_unit_receive(&unit, door, true, false, syn_ack, sizeof syn_ack).number == DOOR_LINK_CROSSED);
+            stays(&unit, door, door_link_unit_receive(&unit, door, flag, true, broken->area, broken->length), broken);
+            /* Answered, with an ACK and a SYN. */
+            EXPECT(door_link_unit_answer(&unit, door, syn, sizeof syn, false, false, &tep, 1, NULL, 0, out, sizeof out).kind == DOOR_LINK_WRITTEN);
+            stays(&unit, door, door_link_unit_receive(&unit, door, flag, !flag, broken->area, broken->length), broken);
+        }
+        stays(&unit, door, door_link_unit_answer(&unit, door, broken->area, broken->length, false, false, &tep, 1, NULL, 0, out, sizeof out), broken);
+
+        /* The judge: of two unreadable areas the own one's, and a refusal before both. */
+        struct door_link_judgement says = door_link_judge(syn, sizeof syn, broken->area, broken->length, false, none);
+        EXPECT(blames(says.reply, DOOR_LINK_PLAIN, DOOR_LINK_UNREADABLE, broken) && all_zero(says.transcript, sizeof says.transcript));
+        for (size_t j = 0; j < sizeof all / sizeof all[0]; j++) {
+            says = door_link_judge(broken->area, broken->length, all[j].area, all[j].length, false, none);
+            EXPECT(blames(says.reply, DOOR_LINK_PLAIN, DOOR_LINK_UNREADABLE, broken) && all_zero(says.transcript, sizeof says.transcript));
+        }
+        says = door_link_judge(broken->area, broken->length, refused, sizeof refused, false, none);
+        EXPECT(says.reply.kind == DOOR_LINK_REFUSED && says.reply.number == DOOR_LINK_AREA_TOO_LONG && !says.reply.place && !says.reply.option);
+    }
+    static const struct broken own = {{0x02}, 1, 0, 0x02}, peer = {{0x01, 0x03, 0x01}, 3, 1, 0x03};
+    EXPECT(blames(door_link_judge(own.area, own.length, peer.area, peer.length, false, none).reply, DOOR_LINK_PLAIN, DOOR_LINK_UNREADABLE, &own));
+    EXPECT(blames(door_link_judge(syn, sizeof syn, peer.area, peer.length, false, none).reply, DOOR_LINK_PLAIN, DOOR_LINK_UNREADABLE, &peer));
+
+    /* The end mark hides a fault; place 0 of a readable area is no fault's. */
+    static const uint8_t hidden[5] = {0x45, 0x03, 0x23, 0x00, 0x02};
+    struct door_link_reply reply = door_link_find_status(hidden, sizeof hidden, true);
+    EXPECT(reply.kind == DOOR_LINK_FOUND && !reply.number && !reply.place && !reply.option);
 }
 
 int main(void) {
@@ -265,13 +353,14 @@ int main(void) {
     /* Plain: the other side has no option. */
     EXPECT(door_link_unit_offer(&unit, 22, 1, false, false, teps, 2, false, nonce, 0, out, sizeof out).number == 5);
     reply = door_link_unit_receive(&unit, 22, true, true, area, 0);
-    EXPECT(reply.kind == DOOR_LINK_PLAIN && reply.number == DOOR_LINK_NO_OPTION);
+    EXPECT(reply.kind == DOOR_LINK_PLAIN && reply.number == DOOR_LINK_NO_OPTION && !reply.place && !reply.option);
     u = seen(&unit);
-    EXPECT(u.doors[22].door.phase == 5 && u.doors[22].door.reason == DOOR_LINK_NO_OPTION);
+    EXPECT(u.doors[22].door.phase == 5 && u.doors[22].door.cause.reason == DOOR_LINK_NO_OPTION && !u.doors[22].door.cause.place && !u.doors[22].door.cause.kind);
 
     init_messages();
     frames();
     generations();
     judgement();
+    places();
     return failures ? 1 : 0;
 }

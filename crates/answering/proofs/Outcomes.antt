@@ -11,6 +11,7 @@ use lib.ListN.{length}
 use Rattle.wire.specs.Bytes.{pasted}
 use Rattle.eno.specs.Area.{synOption}
 use Rattle.eno.specs.Option.{answered, optionWith, answerFits}
+use Rattle.eno.specs.declared.Cause.{Cause}
 use Rattle.door.specs.Door.{Seen, phaseOf}
 use Rattle.door.specs.Record.{recordAt}
 use Rattle.door.specs.Outcome.{Outcome, Effect, refused, written, plain, keep, refusal, unless}
@@ -43,7 +44,7 @@ module _ (v : Seen) (aware mandatory : Bool) (p nonce s : List ℕ) where
     responded-option k t w d p f q =
         outcome-is k _ t _ d _ f _ (w .counted) (w .bytes) p q ∙ sym (simp (le-ltb _ _ (w .room)))
 
-  responded-plain : (n : ℕ) → outcomeAs (plain n) s (plainDoor n) keep ≡ responded v aware mandatory p nonce s (plainFor n)
+  responded-plain : (n : Cause) → outcomeAs (plain n) s (plainDoor n) keep ≡ responded v aware mandatory p nonce s (plainFor n)
   unfolding responded answerLength answerWith refusal unless
   responded-plain n = let h : 0 ≤ length s = omega arith in simp (le-ltb _ _ h)
 
@@ -68,7 +69,7 @@ module _ (v : Seen) (area : List ℕ) (aware mandatory : Bool) (list nonce s : L
         unfolding answer responded refusal
         goes = simp (le-ltb _ _ short, fit, idle)
 
-        pub answer-plain : (n : ℕ) → plainFor n ≡ answering v mandatory area list → outcomeAs (plain n) s (plainDoor n) keep ≡ answer v area aware mandatory list nonce s
+        pub answer-plain : (n : Cause) → plainFor n ≡ answering v mandatory area list → outcomeAs (plain n) s (plainDoor n) keep ≡ answer v area aware mandatory list nonce s
         answer-plain n e = responded-plain v aware mandatory (synOption area) nonce s n ∙ (ap (responded v aware mandatory (synOption area) nonce s) e ∙ goes)
 
         pub answer-with : (o : List ℕ) → o ≡ synOption area → (t j : ℕ) → with (chosen t j) ≡ answering v mandatory area list
@@ -81,7 +82,7 @@ module _ (v : Seen) (area : List ℕ) (aware mandatory : Bool) (list nonce s : L
       unfolding answering
       answer-fits t j e = go (answerReason mandatory area) (chooseTep (synOption area) list (v .held)) refl e
         where
-          go : (m : Option ℕ) (k : Option Choice) → chooseTep (synOption area) list (v .held) ≡ k → with (chosen t j) ≡ reasonOr m (chosenOr k)
+          go : (m : Option Cause) (k : Option Choice) → chooseTep (synOption area) list (v .held) ≡ k → with (chosen t j) ≡ reasonOr m (chosenOr k)
               → answerFits t (recordAt (v .held) j) nonce ≡ true
           go (some n) k q e = let z : _≡_ {A = ℕ} 0 1 = cc in absurd (omega arith)
           go none none q e = let z : _≡_ {A = ℕ} 0 1 = cc in absurd (omega arith)

@@ -4,6 +4,7 @@ use mathlib.Core.List.{List, [], _∷_}
 use mathlib.Core.Bool.{Bool, cond}
 use lib.Dec.{ltb}
 use lib.ListN.{length}
+use Rattle.eno.specs.Cause.{numbered}
 use Rattle.eno.specs.declared.InHand.{InHand}
 use Rattle.door.specs.Door.{Seen, kept}
 use Rattle.door.specs.Outcome.{Outcome, refusal, unless}
@@ -20,7 +21,7 @@ doorAnswered o p mandatory t hand =
     record {
       phase = 3;
       mandatory = mandatory;
-      reason = 0;
+      cause = numbered 0;
       role = 1;
       tep = tepByte t (hand .held);
       resumed = hand .held;

@@ -4,6 +4,7 @@ use door::Door;
 use door::Refusal;
 use door::Reply;
 use door::View;
+use eno::Cause;
 use eno::InHand;
 use opening::Opening;
 use option_writer::OptionWritten;
@@ -38,10 +39,15 @@ fn answered_door(own: &[u8], option: &[u8], mandatory: bool, t: u8, hand: InHand
     let peer = door_data::kept_option(option);
     let n = own.len() as u8;
     let m = option.len() as u8;
+    let cause = Cause {
+        reason: 0,
+        place: 0,
+        kind: 0,
+    };
     Door {
         phase: 3,
         mandatory,
-        reason: 0,
+        cause,
         role: 1,
         tep,
         resumed: hand.held,
@@ -116,12 +122,12 @@ pub fn answer(
     let option = finder::find_option(area, true);
     let decision = deciding::decide(view, area, option, mandatory, teps);
     match decision {
-        Decision::Plain(reason) => {
-            let after = door::plain_door(reason);
+        Decision::Plain(cause) => {
+            let after = door::plain_door(cause);
             Opening {
                 door: after,
                 change: Change::Keep,
-                reply: Reply::Plain(reason),
+                reply: Reply::Plain(cause),
             }
         }
         Decision::With { tep, at } => respond(view, option, tep, at, aware, mandatory, nonce, out),

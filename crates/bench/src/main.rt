@@ -1,4 +1,5 @@
 // The bench table's rows that run, and the worked examples of the RFCs: a line of a table is a call, with what is given and, behind its arrow, what is expected.
+mod area_rows;
 mod bench_table;
 mod frame_calls;
 mod frame_rows;
@@ -18,6 +19,7 @@ mod word;
 fn main() {
     rfc8547::table();
     bench_table::table();
+    area_rows::table();
     init_rows::table();
     frame_rows::table();
     generation_rows::table();

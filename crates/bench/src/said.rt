@@ -62,3 +62,7 @@ pub const REMOTE: usize = 29;
 pub const LAST: usize = 30;
 
 pub const OWED: usize = 31;
+
+pub const PLACE: usize = 32;
+
+pub const KIND: usize = 33;

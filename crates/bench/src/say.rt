@@ -42,7 +42,7 @@ fn blank(s: &[u8], k: usize) -> usize {
 // Puts a word by its number, behind a blank.
 pub fn word(out: &mut [u8], at: usize, k: usize) -> usize {
     let all =
-        b" refused wrote plain holds done Idle Offered Crossed Answered Open Plain role TEP fresh resumed transcript cipher count length next rekey made fin urg urgent from sent received local remote last owed";
+        b" refused wrote plain holds done Idle Offered Crossed Answered Open Plain role TEP fresh resumed transcript cipher count length next rekey made fin urg urgent from sent received local remote last owed place kind";
     let from = blank(all, k);
     let to = blank(read::part(all, from, all.len()), 1);
     put(out, at, read::first(read::part(all, from, all.len()), to))

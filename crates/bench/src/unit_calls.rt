@@ -6,6 +6,7 @@ use crate::word;
 use door::Phase;
 use door::Refusal;
 use door::Reply;
+use eno::Cause;
 use link_unit::Replied;
 use unit::LinkUnit;
 
@@ -51,11 +52,21 @@ fn encrypted_words(role: u8, tep: u8, resumed: bool, length: usize, out: &mut [u
     say::number(out, n, said::TRANSCRIPT, length as u64)
 }
 
+// Plain TCP and its reason; of an unreadable area also the place and the kind of the option that makes it so.
+fn plain_words(cause: Cause, out: &mut [u8]) -> usize {
+    let n = say::number(out, 0, said::PLAIN, wide(cause.reason));
+    if cause.reason != 1 {
+        return n;
+    }
+    let n = say::number(out, n, said::PLACE, wide(cause.place));
+    say::hex(out, n, said::KIND, wide(cause.kind), 2)
+}
+
 fn reply_words(reply: Reply, out: &mut [u8]) -> usize {
     match reply {
         Reply::Refused(why) => say::refused(out, refusal_number(why)),
         Reply::Written(n) => say::number(out, 0, said::WROTE, n as u64),
-        Reply::Plain(reason) => say::number(out, 0, said::PLAIN, wide(reason)),
+        Reply::Plain(cause) => plain_words(cause, out),
         Reply::Now(phase) => say::word(out, 0, phase_word(phase)),
         Reply::Encrypted {
             role,

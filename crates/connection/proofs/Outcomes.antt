@@ -123,9 +123,9 @@ module _ (d : Door) (s : List ℕ) where
         es
 
   module _ (p : Phase) (ep : phaseAs p ≡ phaseOf (d .phase)) where
-    pub plain-told : p ≡ phase.Plain → Told (outcomeAs (plain (d .reason)) s d keep) (replicate 32 0)
+    pub plain-told : p ≡ phase.Plain → Told (outcomeAs (plain (d .cause)) s d keep) (replicate 32 0)
     unfolding result
-    plain-told e = told-by _ (outcomeAs (plain (d .reason)) s d keep) _ refl (rw (sym ep ∙ ap phaseAs e) (two-tests _ _ _ _ _ _ _)) refl
+    plain-told e = told-by _ (outcomeAs (plain (d .cause)) s d keep) _ refl (rw (sym ep ∙ ap phaseAs e) (two-tests _ _ _ _ _ _ _)) refl
 
     pub out-told : (tag p ≡ 0) ⊎ ((tag p ≡ 1) ⊎ ((tag p ≡ 2) ⊎ (tag p ≡ 3))) → Told (outcomeAs (refused 4) s d keep) (replicate 32 0)
     unfolding result

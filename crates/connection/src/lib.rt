@@ -117,11 +117,12 @@ fn open_result(door: Door, out: &mut [u8]) -> Resulted
 pub fn result(door: Door, out: &mut [u8]) -> Resulted
     ensures { λ r. ⌜ (outcomeAs (replyOf (r .reply) (r .secret)) (now (out .exit)) door keep ≡ result door (now (out .entry))) × (r .secret ≡ secretBeside (result door (now (out .entry)) .reply)) ⌝ }
 {
+    let cause = door.cause;
     let phase = door_data::phase_of(door.phase);
     match phase {
         Phase::Open => open_result(door, out),
         Phase::Plain => Resulted {
-            reply: Reply::Plain(door.reason),
+            reply: Reply::Plain(cause),
             secret: [0u8; 32],
         },
         _ => Resulted {

@@ -9,7 +9,7 @@ use Rattle.generation.specs.Steps as generation
 abbrev pub inStatus : area.Status → ℕ
 inStatus area.saysFound = 0
 inStatus area.saysNone = 0
-inStatus area.saysUnreadable = 0
+inStatus (area.saysUnreadable f) = 0
 inStatus (area.saysRefused n) = n
 
 abbrev pub inWriting : option.Writing → ℕ

@@ -1,6 +1,7 @@
 // The line that an answer of the finder, of an Init message or of a frame becomes.
 use crate::refused;
 use crate::text::and_cipher;
+use crate::text::and_fault;
 use crate::text::and_flag;
 use crate::text::and_hex;
 use crate::text::and_number;
@@ -50,9 +51,10 @@ pub fn found(out: &mut [u8], area: &[u8], syn: bool) {
             let at = put(out, 0, b"none");
             finish(out, at, 1);
         }
-        FindStatus::Unreadable => {
+        FindStatus::Unreadable { place, kind } => {
             let at = put(out, 0, b"unreadable");
-            finish(out, at, 1);
+            let end = and_fault(out, at, place, kind);
+            finish(out, end, 1);
         }
         FindStatus::Refused => {
             refuse(out, refused::by_finder(status));

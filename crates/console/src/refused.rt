@@ -38,7 +38,7 @@ pub fn by_finder(status: FindStatus) -> u64
     match status {
         FindStatus::Found => 0,
         FindStatus::Nothing => 0,
-        FindStatus::Unreadable => 0,
+        FindStatus::Unreadable { place: _, kind: _ } => 0,
         FindStatus::Refused => 2,
     }
 }

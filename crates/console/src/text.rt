@@ -115,6 +115,13 @@ pub fn and_cipher(out: &mut [u8], at: usize, cipher: u16) -> usize {
     and_hex(out, at, &bytes)
 }
 
+// The option that makes an area unreadable: where it begins, and its kind in two hex digits.
+pub fn and_fault(out: &mut [u8], at: usize, place: u8, kind: u8) -> usize {
+    let after_place = and_number(out, at, place as u64);
+    let byte = [kind];
+    and_hex(out, after_place, &byte)
+}
+
 // A word and a number, at the start.
 pub fn put_counted(out: &mut [u8], word: &[u8], n: u64) -> usize {
     let at = put(out, 0, word);

@@ -1,5 +1,6 @@
 // The line that a reply of the unit becomes.
 use crate::refused::by_unit;
+use crate::text::and_fault;
 use crate::text::and_hex;
 use crate::text::and_number;
 use crate::text::finish;
@@ -8,6 +9,7 @@ use crate::text::put;
 use crate::text::put_counted;
 use door::Phase;
 use door::Reply;
+use eno::Cause;
 
 fn put_phase(out: &mut [u8], phase: Phase) -> usize {
     match phase {
@@ -43,6 +45,15 @@ fn put_open(
     and_number(out, after_way, length as u64)
 }
 
+// Plain TCP and its reason; an unreadable area has a place and a kind.
+fn put_plain(out: &mut [u8], cause: Cause) -> usize {
+    let after_reason = put_counted(out, b"plain", cause.reason as u64);
+    if cause.reason != 1 {
+        return after_reason;
+    }
+    and_fault(out, after_reason, cause.place, cause.kind)
+}
+
 // The reply's words; `done` stands for a call that has nothing else to say.
 fn put_reply(out: &mut [u8], reply: Reply, done: &[u8], secret: &[u8]) -> usize {
     match reply {
@@ -51,7 +62,7 @@ fn put_reply(out: &mut [u8], reply: Reply, done: &[u8], secret: &[u8]) -> usize 
             put_counted(out, b"refused", number)
         }
         Reply::Written(n) => put_counted(out, b"written", n as u64),
-        Reply::Plain(reason) => put_counted(out, b"plain", reason as u64),
+        Reply::Plain(cause) => put_plain(out, cause),
         Reply::Now(phase) => put_phase(out, phase),
         Reply::Encrypted {
             role,

@@ -7,6 +7,7 @@ use borrow.Author.Tests.{eq-eqb, ne-eqb}
 use lib.Dec.{eqb}
 use lib.ListN.{length}
 use Rattle.eno.specs.Area.{Finding, refused, unreadable, missing, found, Status, saysFound, saysNone, saysUnreadable, saysRefused, status, finding}
+use Rattle.eno.specs.Cause.{numbered, blame}
 use Rattle.eno.specs.declared.SessionRecord.{SessionRecord}
 use Rattle.finder.specs.Answers.{statusOf}
 use Rattle.finder.specs.declared.FindStatus.{FindStatus}
@@ -18,10 +19,10 @@ use Rattle.deciding.specs.Steps.{missedAs, summedUp, decidedBy}
 
 -- what the finder's companion says of an area without an option
 abbrev missedBy : Status → Answering
-missedBy (saysRefused n) = plainFor 2
-missedBy saysUnreadable = plainFor 1
-missedBy saysNone = plainFor 2
-missedBy saysFound = plainFor 2
+missedBy (saysRefused n) = plainFor (numbered 2)
+missedBy (saysUnreadable f) = plainFor (blame (unreadable f))
+missedBy saysNone = plainFor (numbered 2)
+missedBy saysFound = plainFor (numbered 2)
 
 missed-by : (f : Finding) → missedBy (status f) ≡ missedAs f
 unfolding status
@@ -30,8 +31,8 @@ missed-by (unreadable y) = refl
 missed-by missing = refl
 missed-by (found i n) = refl
 
-pub missed-told : (f : Finding) (x y : FindStatus) → x ≡ y → statusOf x ≡ status f → missedBy (statusOf y) ≡ missedAs f
-missed-told f x y q e = ap (λ z. missedBy (statusOf z)) (sym q) ∙ (ap missedBy e ∙ missed-by f)
+pub missed-told : (f : Finding) (x y : FindStatus) → x ≡ y → statusOf x ≡ status f → (a : Answering) → a ≡ missedBy (statusOf y) → a ≡ missedAs f
+missed-told f x y q e a w = w ∙ (ap (λ z. missedBy (statusOf z)) (sym q) ∙ (ap missedBy e ∙ missed-by f))
 
 module _ (mandatory : Bool) (area o list : List ℕ) (held : List SessionRecord) where
   pub decided-missed : length o ≡ 0 → (a : Answering) → a ≡ missedAs (finding area true) → a ≡ decidedBy mandatory area o list held
@@ -43,19 +44,19 @@ module _ (mandatory : Bool) (area o list : List ℕ) (held : List SessionRecord)
     unfolding decidedBy
     by-summary = simp (ne-eqb _ _ some-bytes) (ap (summedUp mandatory o list held) (sym es))
 
-    pub decided-ill : s .«ill_formed» ≡ true → plainFor 3 ≡ decidedBy mandatory area o list held
+    pub decided-ill : s .«ill_formed» ≡ true → (a : Answering) → a ≡ plainFor (numbered 3) → a ≡ decidedBy mandatory area o list held
     unfolding summedUp
-    decided-ill i = sym (by-summary ∙ simp i)
+    decided-ill i a w = w ∙ sym (by-summary ∙ simp i)
 
     module _ (well : s .«ill_formed» ≡ false) where
-      pub decided-equal : s .role ≡ 1 → plainFor 4 ≡ decidedBy mandatory area o list held
+      pub decided-equal : s .role ≡ 1 → (a : Answering) → a ≡ plainFor (numbered 4) → a ≡ decidedBy mandatory area o list held
       unfolding summedUp
-      decided-equal i = sym (by-summary ∙ simp (well, eq-eqb _ _ i))
+      decided-equal i a w = w ∙ sym (by-summary ∙ simp (well, eq-eqb _ _ i))
 
       module _ (differ : s .role ≡ 1 → ⊥) (u : Bool) (test : u ≡ mandatory && not (s .aware)) where
-        pub decided-unaware : u ≡ true → plainFor 5 ≡ decidedBy mandatory area o list held
+        pub decided-unaware : u ≡ true → (a : Answering) → a ≡ plainFor (numbered 5) → a ≡ decidedBy mandatory area o list held
         unfolding summedUp
-        decided-unaware i = sym (by-summary ∙ simp (well, ne-eqb _ _ differ, ← test, i))
+        decided-unaware i a w = w ∙ sym (by-summary ∙ simp (well, ne-eqb _ _ differ, ← test, i))
 
         pub decided-chosen : u ≡ false → (a : Answering) → a ≡ chosenBy o (s .teps) list held → a ≡ decidedBy mandatory area o list held
         unfolding summedUp

@@ -10,6 +10,7 @@ use borrow.Author.Tests.{eq-eqb, ne-eqb, le-ltb}
 use lib.Dec.{eqb, ltb}
 use lib.ListN.{length}
 use Rattle.eno.specs.Area.{Placed, Fault, Finding, refused, unreadable, missing, found, finding, partOf, synOption, choose, chosen, enos, options}
+use Rattle.eno.specs.Cause.{numbered, blame, firstCause}
 use Rattle.eno.specs.Walk.{Reading, readable, faulty, listed}
 use Rattle.eno.specs.Suboption.{suboptions, isIllFormed, awareBit, globalByte}
 use Rattle.eno.specs.Judge.{isUnreadable, isMissing, roleOf, awareOf, tepsOf}
@@ -19,7 +20,6 @@ use Rattle.suboptions.specs.Summary.{entriesOf, summaryOf}
 use Rattle.suboptions.specs.Laws.{saying, summary-says}
 use Rattle.suboptions.specs.declared.Summary.{Summary}
 use Rattle.door.specs.Door.{Seen}
-use Rattle.door.specs.Outcome.{refusal}
 use Rattle.door.specs.Answer.{chooseTep, answerReason, Answering, plainFor, chosenOr, reasonOr, answering}
 use Rattle.tep_choice.specs.Choosing.{chosenBy}
 use Rattle.tep_choice.specs.Laws.Choice.{chosen-is}
@@ -55,7 +55,7 @@ aware-or-not o = go (globalByte (listed (suboptions o)))
 
 -- the reasons, one after another
 by-reasons : (i r u : Bool) (x : Answering)
-    → reasonOr (cond i (some 3) (cond r (some 4) (cond u (some 5) none))) x ≡ cond i (plainFor 3) (cond r (plainFor 4) (cond u (plainFor 5) x))
+    → reasonOr (cond i (some (numbered 3)) (cond r (some (numbered 4)) (cond u (some (numbered 5)) none))) x ≡ cond i (plainFor (numbered 3)) (cond r (plainFor (numbered 4)) (cond u (plainFor (numbered 5)) x))
 by-reasons true r u x = refl
 by-reasons false true u x = refl
 by-reasons false false true x = refl
@@ -67,7 +67,7 @@ module _ (v : Seen) (mandatory : Bool) (area list : List ℕ) (short : length ar
 
   -- no option was found
   missed-is : length o ≡ 0 → missedAs (finding area true) ≡ A
-  unfolding answering answerReason refusal synOption partOf
+  unfolding answering answerReason firstCause synOption partOf
   missed-is z = go (finding area true) refl
     where
       go : (f : Finding) → finding area true ≡ f → missedAs f ≡ A
@@ -100,11 +100,11 @@ module _ (v : Seen) (mandatory : Bool) (area list : List ℕ) (short : length ar
         go missing q = absurd (some-bytes (ap length (is ∙ ap (partOf area) q)))
         go (found i n) q = record { not-unreadable = ap isUnreadable q; not-missing = ap isMissing q }
 
-    after-found : A ≡ cond (isIllFormed (suboptions o)) (plainFor 3)
-        (cond (eqb (roleOf o) 1) (plainFor 4)
-        (cond (mandatory && eqb (awareOf o) 0) (plainFor 5)
+    after-found : A ≡ cond (isIllFormed (suboptions o)) (plainFor (numbered 3))
+        (cond (eqb (roleOf o) 1) (plainFor (numbered 4))
+        (cond (mandatory && eqb (awareOf o) 0) (plainFor (numbered 5))
         (chosenOr (chooseTep o list (v .held)))))
-    unfolding answering answerReason refusal
+    unfolding answering answerReason firstCause
     after-found =
         let F = is-found in
         rw is
@@ -117,7 +117,7 @@ module _ (v : Seen) (mandatory : Bool) (area list : List ℕ) (short : length ar
     unfolding summedUp
     summed-is teps =
         ap (summedUp mandatory o list (v .held)) (summary-says o within)
-        ∙ (ap₂ (λ u x. cond (isIllFormed (suboptions o)) (plainFor 3) (cond (eqb (roleOf o) 1) (plainFor 4) (cond (mandatory && u) (plainFor 5) x)))
+        ∙ (ap₂ (λ u x. cond (isIllFormed (suboptions o)) (plainFor (numbered 3)) (cond (eqb (roleOf o) 1) (plainFor (numbered 4)) (cond (mandatory && u) (plainFor (numbered 5)) x)))
         (sym (aware-or-not o)) (chosen-is o (v .held) list (tep-list list teps))
         ∙ sym after-found)
 

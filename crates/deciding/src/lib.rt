@@ -1,13 +1,28 @@
 // What an answer comes to: plain TCP and its reason, or the TEP that is answered and the record that is resumed. Total for every view and every argument.
 use door::View;
+use eno::Cause;
 use finder::FindStatus;
 use tep_choice::Decision;
 ghost use mathlib.Core.Path.{_≡_};
 ghost use mathlib.Core.Bool.{true, _&&_, not};
 ghost use Rattle.eno.specs.Area.{finding};
+ghost use Rattle.eno.specs.Cause.{numbered};
 ghost use Rattle.door.specs.Door.{seenOf};
+ghost use Rattle.door.specs.Answer.{plainFor};
 ghost use Rattle.tep_choice.specs.Choosing.{decisionOf};
 ghost use Rattle.deciding.specs.Steps.{missedAs, decidedBy};
+
+// Plain TCP for a reason that has no place.
+fn plain(reason: u8) -> Decision
+    ensures { λ r. ⌜ decisionOf r ≡ plainFor (numbered reason) ⌝ }
+{
+    let cause = Cause {
+        reason,
+        place: 0,
+        kind: 0,
+    };
+    Decision::Plain(cause)
+}
 
 // Why an area has no option.
 fn missed(area: &[u8]) -> Decision
@@ -15,10 +30,17 @@ fn missed(area: &[u8]) -> Decision
 {
     let status = finder::find_status(area, true);
     match status {
-        FindStatus::Unreadable => Decision::Plain(1),
-        FindStatus::Nothing => Decision::Plain(2),
-        FindStatus::Refused => Decision::Plain(2),
-        FindStatus::Found => Decision::Plain(2),
+        FindStatus::Unreadable { place, kind } => {
+            let cause = Cause {
+                reason: 1,
+                place,
+                kind,
+            };
+            Decision::Plain(cause)
+        }
+        FindStatus::Nothing => plain(2),
+        FindStatus::Refused => plain(2),
+        FindStatus::Found => plain(2),
     }
 }
 
@@ -43,13 +65,13 @@ pub fn decide<'a>(
     }
     let s = suboptions::summarize(option);
     if s.ill_formed {
-        return Decision::Plain(3);
+        return plain(3);
     }
     if s.role == 1 {
-        return Decision::Plain(4);
+        return plain(4);
     }
     if is_unaware(mandatory, s.aware) {
-        return Decision::Plain(5);
+        return plain(5);
     }
     let entries = s.teps;
     tep_choice::choose(view, option, entries, teps)

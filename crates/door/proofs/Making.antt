@@ -4,6 +4,8 @@ use mathlib.Core.Path.{_≡_, ap}
 use mathlib.Core.Bool.{false}
 use lib.ListN.{replicate}
 use Rattle.eno.specs.declared.SessionRecord.{SessionRecord}
+use Rattle.eno.specs.Cause.{numbered}
+use Rattle.eno.specs.declared.Cause.{Cause}
 use Rattle.eno.specs.declared.InHand.{InHand}
 use Rattle.door.specs.Door.{kept, noSession, emptyHand, idleDoor}
 use Rattle.door.specs.Answer.{plainDoor}
@@ -17,12 +19,12 @@ unfolding emptyHand
 empty-with r e = ap (λ x. notHeld x) e
 
 -- a door of zeros in a phase
-abbrev doorIn : (phase reason : ℕ) → InHand → Door
-doorIn phase reason hand =
+abbrev doorIn : ℕ → Cause → InHand → Door
+doorIn phase cause hand =
     record {
       phase = phase;
       mandatory = false;
-      reason = reason;
+      cause = cause;
       role = 0;
       tep = 0;
       resumed = false;
@@ -33,10 +35,10 @@ doorIn phase reason hand =
       hand = hand;
     }
 
-pub idle-with : (h : InHand) → h ≡ emptyHand → doorIn 0 0 h ≡ idleDoor
+pub idle-with : (h : InHand) → h ≡ emptyHand → doorIn 0 (numbered 0) h ≡ idleDoor
 unfolding idleDoor
-idle-with h e = ap (λ x. doorIn 0 0 x) e
+idle-with h e = ap (λ x. doorIn 0 (numbered 0) x) e
 
-pub plain-with : (reason : ℕ) (h : InHand) → h ≡ emptyHand → doorIn 5 reason h ≡ plainDoor reason
+pub plain-with : (cause : Cause) (h : InHand) → h ≡ emptyHand → doorIn 5 cause h ≡ plainDoor cause
 unfolding plainDoor kept
-plain-with reason h e = ap (λ x. doorIn 5 reason x) e
+plain-with cause h e = ap (λ x. doorIn 5 cause x) e

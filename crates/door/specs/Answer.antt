@@ -7,11 +7,13 @@ use lib.Dec.{ltb, leb, eqb}
 use lib.ListN.{length}
 use Rattle.wire.specs.Bytes.{pasted, sameBytes}
 use Rattle.eno.specs.Area.{finding, synOption}
+use Rattle.eno.specs.Cause.{numbered, blame, firstCause}
 use Rattle.eno.specs.Suboption.{Sent, suboptions, isIllFormed}
 use Rattle.eno.specs.Session.{expectedHalf}
 use Rattle.eno.specs.Judge.{isBad, isResumption, halfOf, named, once, tepsOf, isUnreadable, isMissing, tooLong, roleOf, awareOf}
 use Rattle.eno.specs.Option.{answered, optionWith}
 use Rattle.eno.specs.declared.SessionRecord.{SessionRecord}
+use Rattle.eno.specs.declared.Cause.{Cause}
 use Rattle.door.specs.Door.{phaseOf, kept, handOf, emptyHand, Seen}
 use Rattle.door.specs.Record.{firstThat, recordAt}
 use Rattle.door.specs.Outcome.{Outcome, written, plain, keep, remove, refusal, unless}
@@ -61,28 +63,28 @@ unfoldable pub chooseTep : List ℕ → List ℕ → List SessionRecord → Opti
 chooseTep o list held = orFresh o list held (lastThat (λ t. ltb (fittingAt o t held) (length held)) list)
 
 -- why an answer is plain: 1 unreadable area; 2 no ENO option; 3 ill-formed; 4 equal b; 5 mandatory-aware and the other side's a = 0
-unfoldable pub answerReason : Bool → List ℕ → Option ℕ
+unfoldable pub answerReason : Bool → List ℕ → Option Cause
 answerReason mandatory area =
     let o = synOption area in
-    refusal (
-    (isUnreadable (finding area true), 1)
-    ∷ (isMissing (finding area true), 2)
-    ∷ (isIllFormed (suboptions o), 3)
-    ∷ (eqb (roleOf o) 1, 4)
-    ∷ (mandatory && eqb (awareOf o) 0, 5)
+    firstCause (
+    (isUnreadable (finding area true), blame (finding area true))
+    ∷ (isMissing (finding area true), numbered 2)
+    ∷ (isIllFormed (suboptions o), numbered 3)
+    ∷ (eqb (roleOf o) 1, numbered 4)
+    ∷ (mandatory && eqb (awareOf o) 0, numbered 5)
     ∷ []
     )
 
 -- what an answer comes to: plain with its reason, or the choice; 6 no valid TEP
 pub data Answering : Type 0 where
-  plainFor : ℕ → Answering
+  plainFor : Cause → Answering
   with : Choice → Answering
 
 abbrev pub chosenOr : Option Choice → Answering
-chosenOr none = plainFor 6
+chosenOr none = plainFor (numbered 6)
 chosenOr (some c) = with c
 
-abbrev pub reasonOr : Option ℕ → Answering → Answering
+abbrev pub reasonOr : Option Cause → Answering → Answering
 reasonOr (some n) a = plainFor n
 reasonOr none a = a
 
@@ -90,12 +92,12 @@ unfoldable pub answering : Seen → Bool → List ℕ → List ℕ → Answering
 answering v mandatory area list = reasonOr (answerReason mandatory area) (chosenOr (chooseTep (synOption area) list (v .held)))
 
 -- a door in Plain; what was in hand is dropped
-unfoldable pub plainDoor : ℕ → Door
+unfoldable pub plainDoor : Cause → Door
 plainDoor n =
     record {
       phase = 5;
       mandatory = false;
-      reason = n;
+      cause = n;
       role = 0;
       tep = 0;
       resumed = false;
@@ -112,7 +114,7 @@ answeredDoor o p mandatory t hand =
     record {
       phase = 3;
       mandatory = mandatory;
-      reason = 0;
+      cause = numbered 0;
       role = 1;
       tep = elim hand [ none ↦ t | some r ↦ t + 0x80 ];
       resumed = elim hand [ none ↦ false | some r ↦ true ];

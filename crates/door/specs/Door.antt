@@ -6,6 +6,7 @@ use mathlib.Core.Bool.{Bool, true, false, cond}
 use mathlib.Core.Option.{Option, none, some}
 use lib.Dec.{eqb}
 use lib.ListN.{length, take, replicate}
+use Rattle.eno.specs.Cause.{numbered}
 use Rattle.eno.specs.Judge.{ofA, ofB}
 use Rattle.eno.specs.Session.{inHand}
 use Rattle.eno.specs.declared.SessionRecord.{SessionRecord}
@@ -74,7 +75,7 @@ idleDoor =
     record {
       phase = 0;
       mandatory = false;
-      reason = 0;
+      cause = numbered 0;
       role = 0;
       tep = 0;
       resumed = false;

@@ -15,4 +15,5 @@ pub mod SameTests
 pub mod Refusals
 pub mod Laws
 pub mod Verdict
+pub mod Causes
 pub mod RunTable

@@ -6,6 +6,7 @@ use mathlib.Core.Option.{Option, none, some}
 use lib.Dec.{ltb, leb}
 use lib.ListN.{length}
 use Rattle.wire.specs.Bytes.{pasted}
+use Rattle.eno.specs.Cause.{numbered}
 use Rattle.eno.specs.Option.{isListed, isTepList, offered, optionWith}
 use Rattle.eno.specs.declared.SessionRecord.{SessionRecord}
 use Rattle.door.specs.Door.{Phase, idle, offering, crossed, answering, opened, unencrypted, phaseOf, kept, handOf, Seen}
@@ -35,7 +36,7 @@ offeredDoor o mandatory hand =
     record {
       phase = 1;
       mandatory = mandatory;
-      reason = 0;
+      cause = numbered 0;
       role = 0;
       tep = 0;
       resumed = false;

@@ -5,6 +5,7 @@ use mathlib.Core.Bool.{Bool}
 use mathlib.Core.Option.{Option, none, some}
 use Rattle.eno.specs.Judge.{Way}
 use Rattle.eno.specs.declared.SessionRecord.{SessionRecord}
+use Rattle.eno.specs.declared.Cause.{Cause}
 use Rattle.door.specs.Door.{Phase, Seen}
 use Rattle.door.specs.declared.Door.{Door}
 unfoldable pub use Rattle.refusals.specs.Rows.{refusal}
@@ -15,7 +16,7 @@ pub data Reply : Type 0 where
   -- bytes written
   written : ℕ → Reply
   -- plain TCP, with its reason
-  plain : ℕ → Reply
+  plain : Cause → Reply
   -- the phase that the door is in now
   nowIn : Phase → Reply
   -- role, TEP byte, way, bytes of the transcript, secret

@@ -7,11 +7,13 @@ use lib.Dec.{ltb}
 use lib.ListN.{length, replicate}
 use Rattle.wire.specs.Bytes.{pasted, sameBytes}
 use Rattle.eno.specs.Area.{finding, partOf, synOption}
+use Rattle.eno.specs.Cause.{numbered, blame, firstCause}
 use Rattle.eno.specs.Suboption.{suboptions, isIllFormed}
 use Rattle.eno.specs.Session.{inHand}
 use Rattle.eno.specs.Judge as judged
 use Rattle.eno.specs.Judge.{Way, wayIf, isResumed, Judged, encrypt, isUnreadable, isMissing, tooLong, judge}
 use Rattle.eno.specs.declared.InHand.{InHand}
+use Rattle.eno.specs.declared.Cause.{Cause}
 use Rattle.door.specs.Door.{Phase, idle, offering, crossed, answering, opened, unencrypted, phaseOf, kept, ownOption, peerOption, transcriptOf, emptyHand, idleDoor}
 use Rattle.door.specs.Outcome.{Reply, Outcome, written, plain, nowIn, encrypted, done, keep, refusal, unless}
 use Rattle.door.specs.Answer.{plainDoor}
@@ -53,7 +55,7 @@ openDoor d =
     record {
       phase = 4;
       mandatory = d .mandatory;
-      reason = 0;
+      cause = numbered 0;
       role = d .role;
       tep = d .tep;
       resumed = d .resumed;
@@ -70,7 +72,7 @@ judgedDoor d p role byte way =
     record {
       phase = 2;
       mandatory = d .mandatory;
-      reason = 0;
+      cause = numbered 0;
       role = role;
       tep = byte;
       resumed = isResumed way;
@@ -96,21 +98,21 @@ afterJudging d then p (judged.plain n) = plainDoor n
 afterJudging d then p (encrypt role byte way t) = thenIn then (judgedDoor d p role byte way)
 
 -- a second SYN is judged by 1 unreadable area, 2 no ENO option, 3 ill-formed, 7 option altered
-unfoldable pub secondReason : Door → List ℕ → Option ℕ
+unfoldable pub secondReason : Door → List ℕ → Option Cause
 secondReason d area =
-    refusal (
-    (isUnreadable (finding area true), 1)
-    ∷ (isMissing (finding area true), 2)
-    ∷ (isIllFormed (suboptions (synOption area)), 3)
-    ∷ (not (sameBytes (synOption area) (peerOption d)), 7)
+    firstCause (
+    (isUnreadable (finding area true), blame (finding area true))
+    ∷ (isMissing (finding area true), numbered 2)
+    ∷ (isIllFormed (suboptions (synOption area)), numbered 3)
+    ∷ (not (sameBytes (synOption area) (peerOption d)), numbered 7)
     ∷ []
     )
 
 -- a non-SYN by 1 and 2
-unfoldable pub presenceReason : List ℕ → Option ℕ
-presenceReason area = refusal ((isUnreadable (finding area false), 1) ∷ (isMissing (finding area false), 2) ∷ [])
+unfoldable pub presenceReason : List ℕ → Option Cause
+presenceReason area = firstCause ((isUnreadable (finding area false), blame (finding area false)) ∷ (isMissing (finding area false), numbered 2) ∷ [])
 
-abbrev pub plainOr : Option ℕ → Door → Door
+abbrev pub plainOr : Option Cause → Door → Door
 plainOr (some n) d = plainDoor n
 plainOr none d = d
 
@@ -129,7 +131,7 @@ isOutOfTurn unchanged = false
 isOutOfTurn outOfTurn = true
 
 -- the reply: the phase that the door is in now, in Plain with the reason
-abbrev pub nowSays : Phase → ℕ → Reply
+abbrev pub nowSays : Phase → Cause → Reply
 nowSays idle n = nowIn idle
 nowSays offering n = nowIn offering
 nowSays crossed n = nowIn crossed
@@ -138,7 +140,7 @@ nowSays opened n = nowIn opened
 nowSays unencrypted n = plain n
 
 abbrev pub replies : Door → Reply
-replies d = nowSays (phaseOf (d .phase)) (d .reason)
+replies d = nowSays (phaseOf (d .phase)) (d .cause)
 
 unfoldable pub receive : Door → (syn ack : Bool) (area : List ℕ) → Outcome
 receive d syn ack area =
@@ -190,7 +192,7 @@ result d s =
     (refusal ((not (open? || isPlain (phaseOf (d .phase))), 4) ∷ (open? && ltb (length s) (length t), 5) ∷ []))
     d s
     (record {
-      reply = cond open? (encrypted (d .role) (d .tep) (wayIf (d .resumed)) (length t) (secretOf d)) (plain (d .reason));
+      reply = cond open? (encrypted (d .role) (d .tep) (wayIf (d .resumed)) (length t) (secretOf d)) (plain (d .cause));
       buffer = cond open? (pasted s 0 t) s;
       door = d;
       effect = keep;

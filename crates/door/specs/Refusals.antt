@@ -11,6 +11,7 @@ use lib.ListN.{length}
 use Rattle.refusals.specs.Rows.{Rising, Least}
 use Rattle.refusals.specs.RowLaws.{first-is-least}
 use Rattle.eno.specs.Tep.{isKnown}
+use Rattle.eno.specs.declared.Cause.{Cause}
 use Rattle.door.specs.Door.{Phase, idle, offering, crossed, answering, opened, unencrypted, phaseOf, transcriptOf, Seen}
 use Rattle.door.specs.Outcome.{Reply, refused, written, plain, nowIn, encrypted, done, holds, Outcome, keep, refusal, unless}
 use Rattle.door.specs.Offer as o
@@ -52,7 +53,7 @@ module _ (d : Door) (s : List ℕ) (x : Outcome) (taken : refusedBy (x .reply) �
   kept none n e = let z : _≡_ {A = ℕ} 0 1 = cc in absurd (omega arith)
   kept (some m) n e = record { buffer = refl; door = refl; effect = refl }
 
-now-taken : (p : Phase) (n : ℕ) → refusedBy (nowSays p n) ≡ none
+now-taken : (p : Phase) (n : Cause) → refusedBy (nowSays p n) ≡ none
 now-taken idle n = refl
 now-taken offering n = refl
 now-taken crossed n = refl
@@ -61,7 +62,7 @@ now-taken opened n = refl
 now-taken unencrypted n = refl
 
 replies-taken : (d : Door) → refusedBy (r.replies d) ≡ none
-replies-taken d = now-taken (phaseOf (d .phase)) (d .reason)
+replies-taken d = now-taken (phaseOf (d .phase)) (d .cause)
 
 answer-taken : (v : Seen) (aware mandatory : Bool) (p nonce s : List ℕ) (w : a.Answering) → refusedBy (answerWith v aware mandatory p nonce s w .reply) ≡ none
 unfolding answerWith

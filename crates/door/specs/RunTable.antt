@@ -8,6 +8,8 @@ use Rattle.wire.specs.Bytes.{part, pasted, sameBytes}
 use Rattle.eno.specs.Walk.{items, itemsOf}
 use Rattle.eno.specs.Area.{optionAt, options, enos, choose, chosen, finding, partOf, synOption}
 use Rattle.eno.specs.Suboption.{suboptionAt, suboptions, isIllFormed, globals, globalByte, roleBit, awareBit, teps}
+use Rattle.eno.specs.Cause.{numbered, firstCause}
+use Rattle.eno.specs.declared.Cause.{Cause}
 use Rattle.eno.specs.Tep.{isKnown}
 use Rattle.eno.specs.Session.{sentHalf, expectedHalf, inHand}
 use Rattle.eno.specs.Judge.{Way, fresh, resumed, isFresh, isBad, isResumption, halfOf, matches, named, once, ofA, ofB, wayOf, wayOfBoth, tepsOf, validity, lastValid, agreed, negotiate, firstOf, roleOf, awareOf, judge}
@@ -103,6 +105,17 @@ plus o = 1 ∷ 1 ∷ o
 abbrev faulty : List ℕ
 faulty = 0x45 ∷ 3 ∷ 0x23 ∷ 2 ∷ []
 
+abbrev brokenAt : (place kind : ℕ) → Cause
+brokenAt i k = record { reason = 1; place = i; kind = k }
+
+-- place 3, kind 02
+abbrev broken : Cause
+broken = brokenAt 3 2
+
+-- place 6, kind 08
+abbrev shortened : List ℕ
+shortened = 1 ∷ 1 ∷ 2 ∷ 4 ∷ 5 ∷ 0xb4 ∷ 8 ∷ []
+
 abbrev other : List ℕ
 other = 0x45 ∷ 4 ∷ 1 ∷ 0x21 ∷ []
 
@@ -132,7 +145,7 @@ runs =
     (0x45 ∷ 13 ∷ 0x21 ∷ 0xa3 ∷ lowHalf ++ 0x45 ∷ 13 ∷ 1 ∷ 0xa3 ∷ highHalf)
     -- answered 45 0d 01 a3 00 .. 08: reason 6
     ∷ run (storeR ∷ offer 0 false false (0x21 ∷ 0x23 ∷ []) true [] (room 13) ∷ synAck (0x45 ∷ 13 ∷ 1 ∷ 0xa3 ∷ lowHalf) ∷ result [] ∷ count ∷ [])
-    (done ∷ written 13 ∷ plain 6 ∷ plain 6 ∷ holds 0 ∷ []) []
+    (done ∷ written 13 ∷ plain (numbered 6) ∷ plain (numbered 6) ∷ holds 0 ∷ []) []
     -- answered 45 04 01 23: fresh, and R is gone: it may be stored again
     ∷ run (storeR ∷ offer 0 false false (0x21 ∷ 0x23 ∷ []) true [] (room 13) ∷ synAck kB ∷ count ∷ storeR ∷ result (room 17) ∷ [])
     (done ∷ written 13 ∷ nowIn opened ∷ holds 0 ∷ done ∷ encrypted 0 0x23 fresh 17 noSecret ∷ [])
@@ -147,36 +160,47 @@ runs =
     ∷ run (syn kB ∷ synAck kB ∷ ack kB ∷ neither kB ∷ neither (replicate 41 1) ∷ []) (refused 4 ∷ refused 4 ∷ refused 4 ∷ refused 4 ∷ refused 2 ∷ []) []
     -- Offered
     ∷ run (toOffered ∷ ack kB ∷ neither kB ∷ syn (plus kB) ∷ []) (written 4 ∷ refused 4 ∷ refused 4 ∷ nowIn crossed ∷ []) []
-    ∷ run (toOffered ∷ syn faulty ∷ []) (written 4 ∷ plain 1 ∷ []) []
-    ∷ run (toOffered ∷ synAck [] ∷ []) (written 4 ∷ plain 2 ∷ []) []
-    ∷ run (toOffered ∷ synAck illFormed ∷ []) (written 4 ∷ plain 3 ∷ []) []
-    ∷ run (toOffered ∷ syn kA ∷ []) (written 4 ∷ plain 4 ∷ []) []
-    ∷ run (offer 0 true true (0x21 ∷ 0x23 ∷ []) false [] (room 5) ∷ synAck kB ∷ []) (written 5 ∷ plain 5 ∷ []) []
-    ∷ run (toOffered ∷ syn (0x45 ∷ 4 ∷ 1 ∷ 0x24 ∷ []) ∷ []) (written 4 ∷ plain 6 ∷ []) []
+    ∷ run (toOffered ∷ syn faulty ∷ neither kB ∷ result [] ∷ result [] ∷ []) (written 4 ∷ plain broken ∷ plain broken ∷ plain broken ∷ plain broken ∷ []) []
+    ∷ run (toOffered ∷ synAck [] ∷ []) (written 4 ∷ plain (numbered 2) ∷ []) []
+    ∷ run (toOffered ∷ synAck illFormed ∷ []) (written 4 ∷ plain (numbered 3) ∷ []) []
+    ∷ run (toOffered ∷ syn kA ∷ []) (written 4 ∷ plain (numbered 4) ∷ []) []
+    ∷ run (offer 0 true true (0x21 ∷ 0x23 ∷ []) false [] (room 5) ∷ synAck kB ∷ []) (written 5 ∷ plain (numbered 5) ∷ []) []
+    ∷ run (toOffered ∷ syn (0x45 ∷ 4 ∷ 1 ∷ 0x24 ∷ []) ∷ []) (written 4 ∷ plain (numbered 6) ∷ []) []
     -- Crossed
     ∷ run (toOffered ∷ syn kB ∷ syn kB ∷ neither kB ∷ synAck (plus kB) ∷ []) (written 4 ∷ nowIn crossed ∷ refused 4 ∷ refused 4 ∷ nowIn opened ∷ []) []
-    ∷ run (toOffered ∷ syn kB ∷ synAck faulty ∷ []) (written 4 ∷ nowIn crossed ∷ plain 1 ∷ []) []
-    ∷ run (toOffered ∷ syn kB ∷ synAck [] ∷ []) (written 4 ∷ nowIn crossed ∷ plain 2 ∷ []) []
-    ∷ run (toOffered ∷ syn kB ∷ synAck illFormed ∷ []) (written 4 ∷ nowIn crossed ∷ plain 3 ∷ []) []
-    ∷ run (toOffered ∷ syn kB ∷ synAck other ∷ []) (written 4 ∷ nowIn crossed ∷ plain 7 ∷ []) []
+    ∷ run (toOffered ∷ syn kB ∷ synAck faulty ∷ []) (written 4 ∷ nowIn crossed ∷ plain broken ∷ []) []
+    ∷ run (toOffered ∷ syn kB ∷ synAck [] ∷ []) (written 4 ∷ nowIn crossed ∷ plain (numbered 2) ∷ []) []
+    ∷ run (toOffered ∷ syn kB ∷ synAck illFormed ∷ []) (written 4 ∷ nowIn crossed ∷ plain (numbered 3) ∷ []) []
+    ∷ run (toOffered ∷ syn kB ∷ synAck other ∷ []) (written 4 ∷ nowIn crossed ∷ plain (numbered 7) ∷ []) []
     ∷ run (toOffered ∷ syn kB ∷ ack illFormed ∷ []) (written 4 ∷ nowIn crossed ∷ nowIn opened ∷ []) []
-    ∷ run (toOffered ∷ syn kB ∷ ack faulty ∷ []) (written 4 ∷ nowIn crossed ∷ plain 1 ∷ []) []
-    ∷ run (toOffered ∷ syn kB ∷ ack [] ∷ []) (written 4 ∷ nowIn crossed ∷ plain 2 ∷ []) []
+    ∷ run (toOffered ∷ syn kB ∷ ack faulty ∷ []) (written 4 ∷ nowIn crossed ∷ plain broken ∷ []) []
+    ∷ run (toOffered ∷ syn kB ∷ ack [] ∷ []) (written 4 ∷ nowIn crossed ∷ plain (numbered 2) ∷ []) []
     -- Answered
     ∷ run (toAnswered ∷ synAck kA ∷ neither kA ∷ syn (plus kA) ∷ ack (kA ++ kA) ∷ []) (written 4 ∷ refused 4 ∷ refused 4 ∷ nowIn answering ∷ nowIn opened ∷ []) []
-    ∷ run (toAnswered ∷ syn faulty ∷ []) (written 4 ∷ plain 1 ∷ []) []
-    ∷ run (toAnswered ∷ syn (kA ++ kA) ∷ []) (written 4 ∷ plain 2 ∷ []) []
-    ∷ run (toAnswered ∷ syn illFormed ∷ []) (written 4 ∷ plain 3 ∷ []) []
-    ∷ run (toAnswered ∷ syn other ∷ []) (written 4 ∷ plain 7 ∷ []) []
-    ∷ run (toAnswered ∷ ack faulty ∷ []) (written 4 ∷ plain 1 ∷ []) []
-    ∷ run (toAnswered ∷ ack [] ∷ []) (written 4 ∷ plain 2 ∷ []) []
+    ∷ run (toAnswered ∷ syn faulty ∷ []) (written 4 ∷ plain broken ∷ []) []
+    ∷ run (toAnswered ∷ syn (kA ++ kA) ∷ []) (written 4 ∷ plain (numbered 2) ∷ []) []
+    ∷ run (toAnswered ∷ syn illFormed ∷ []) (written 4 ∷ plain (numbered 3) ∷ []) []
+    ∷ run (toAnswered ∷ syn other ∷ []) (written 4 ∷ plain (numbered 7) ∷ []) []
+    ∷ run (toAnswered ∷ ack faulty ∷ []) (written 4 ∷ plain broken ∷ []) []
+    ∷ run (toAnswered ∷ ack [] ∷ []) (written 4 ∷ plain (numbered 2) ∷ []) []
     -- Open and Plain: no change, whatever the segment; but an area above 40 bytes is refused
     ∷ run (toOffered ∷ synAck kB ∷ syn faulty ∷ synAck [] ∷ ack [] ∷ neither faulty ∷ syn (replicate 41 1) ∷ result (room 8) ∷ [])
     (written 4 ∷ nowIn opened ∷ nowIn opened ∷ nowIn opened ∷ nowIn opened ∷ nowIn opened ∷ refused 2 ∷ encrypted 0 0x23 fresh 8 noSecret ∷ [])
     (kA ++ kB)
     ∷ run (toOffered ∷ synAck [] ∷ syn kB ∷ synAck kB ∷ ack kB ∷ neither kB ∷ ack (replicate 41 1) ∷ result [] ∷ [])
-    (written 4 ∷ plain 2 ∷ plain 2 ∷ plain 2 ∷ plain 2 ∷ plain 2 ∷ refused 2 ∷ plain 2 ∷ [])
+    (written 4 ∷ plain (numbered 2) ∷ plain (numbered 2) ∷ plain (numbered 2) ∷ plain (numbered 2) ∷ plain (numbered 2) ∷ refused 2 ∷ plain (numbered 2) ∷ [])
     []
+    -- an unreadable area: place and kind, from each call that meets it, and from receive and result after it, as often as they are asked
+    ∷ run (answer faulty false false (0x23 ∷ []) [] [] ∷ result [] ∷ syn shortened ∷ ack [] ∷ result (room 3) ∷ result (room 3) ∷ [])
+    (plain broken ∷ plain broken ∷ plain broken ∷ plain broken ∷ plain broken ∷ plain broken ∷ []) (room 3)
+    ∷ run (toOffered ∷ synAck shortened ∷ syn faulty ∷ result [] ∷ result [] ∷ []) (written 4 ∷ plain (brokenAt 6 8) ∷ plain (brokenAt 6 8) ∷ plain (brokenAt 6 8) ∷ plain (brokenAt 6 8) ∷ []) []
+    ∷ run (toOffered ∷ syn kB ∷ synAck (0x45 ∷ 1 ∷ []) ∷ result [] ∷ ack faulty ∷ result [] ∷ [])
+    (written 4 ∷ nowIn crossed ∷ plain (brokenAt 0 0x45) ∷ plain (brokenAt 0 0x45) ∷ plain (brokenAt 0 0x45) ∷ plain (brokenAt 0 0x45) ∷ []) []
+    ∷ run (toOffered ∷ syn kB ∷ ack (replicate 39 1 ++ 0x45 ∷ []) ∷ result [] ∷ []) (written 4 ∷ nowIn crossed ∷ plain (brokenAt 39 0x45) ∷ plain (brokenAt 39 0x45) ∷ []) []
+    ∷ run (toAnswered ∷ syn (0x45 ∷ 2 ∷ 0x45 ∷ 2 ∷ 2 ∷ 1 ∷ []) ∷ result [] ∷ []) (written 4 ∷ plain (brokenAt 4 2) ∷ plain (brokenAt 4 2) ∷ []) []
+    ∷ run (toAnswered ∷ ack shortened ∷ result [] ∷ close ∷ result [] ∷ []) (written 4 ∷ plain (brokenAt 6 8) ∷ plain (brokenAt 6 8) ∷ done ∷ refused 4 ∷ []) []
+    -- an end mark hides what follows
+    ∷ run (toAnswered ∷ ack (0x45 ∷ 3 ∷ 0x23 ∷ 0 ∷ 2 ∷ []) ∷ []) (written 4 ∷ nowIn opened ∷ []) []
     -- resend writes the same bytes again, until the door is open
     ∷ run (resend (room 4) ∷ storeR ∷ offer 0 false false (0x21 ∷ 0x23 ∷ []) true (9 ∷ []) (room 14) ∷ resend (room 13) ∷ resend (room 15) ∷ [])
     (refused 4 ∷ done ∷ written 14 ∷ refused 5 ∷ written 14 ∷ [])
@@ -188,6 +212,6 @@ pub run-table : map (λ (r : Run). told r) runs ≡ runs
 unfolding runs told repliesOf lastBuffer emptySeen outcome cut effected after part pasted sameBytes items itemsOf optionAt options enos choose chosen finding partOf synOption suboptionAt suboptions isIllFormed
     globals globalByte roleBit awareBit teps isKnown sentHalf expectedHalf inHand isFresh isBad isResumption halfOf matches named once ofA ofB wayOf wayOfBoth tepsOf validity lastValid agreed negotiate firstOf roleOf awareOf judge
     encode encodeAll optionWith globalOf globalPart freshPart resumptionPart without isListed freshTeps lastPart offered answered knownOnce isTepList eachN phaseOf kept ownOption peerOption transcriptOf noSession emptyHand handOf
-    idleDoor firstThat recordAt isSession refusal unless termsFit offeredAt offeredDoor offer-spec.offer candidate isCandidate fittingAt lastThat chooseTep answerReason answer-spec.answering plainDoor answeredDoor answerWith answerLength answer-spec.answer
+    idleDoor firstThat recordAt isSession refusal firstCause unless termsFit offeredAt offeredDoor offer-spec.offer candidate isCandidate fittingAt lastThat chooseTep answerReason answer-spec.answering plainDoor answeredDoor answerWith answerLength answer-spec.answer
     turn openDoor judgedDoor secondReason presenceReason received secretOf receive-spec.receive receive-spec.resend receive-spec.result receive-spec.close isHeld isRecord records-spec.store records-spec.forget records-spec.count
 run-table = refl

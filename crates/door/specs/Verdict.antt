@@ -22,6 +22,7 @@ use Rattle.eno.specs.Laws.Walk.{Every}
 use Rattle.eno.specs.Laws.Asked.{and-true, IsTep, listed-tep, offer-may-be-asked}
 use Rattle.eno.specs.Laws.Found.{found-short}
 use Rattle.eno.specs.declared.SessionRecord.{SessionRecord}
+use Rattle.eno.specs.declared.Cause.{Cause}
 use Rattle.door.specs.Door.{Phase, offering, crossed, answering, opened, unencrypted, phaseOf, kept, ownOption, peerOption, transcriptOf, noSession, emptyHand, idleDoor}
 use Rattle.door.specs.Record.{firstThat, pastEnd, recordAt}
 use Rattle.door.specs.Outcome.{Outcome, written, keep, refusal, unless}
@@ -198,7 +199,7 @@ module _ (role byte : ℕ) (way : Way) (t : List ℕ) where
   not-refused : (n : ℕ) → Encrypts (judged.refuse n) → ⊥
   not-refused n e = let z : _≡_ {A = ℕ} 0 1 = cc in omega arith
 
-  not-plain : (n : ℕ) → Encrypts (judged.plain n) → ⊥
+  not-plain : (n : Cause) → Encrypts (judged.plain n) → ⊥
   not-plain n e = let z : _≡_ {A = ℕ} 0 1 = cc in omega arith
 
   module _ (own peer : List ℕ) where
@@ -208,7 +209,7 @@ module _ (role byte : ℕ) (way : Way) (t : List ℕ) where
     agreed-transcript : (hand : Option SessionRecord) (b : ℕ) (m : Option Negotiated)
         → Encrypts (agreed b (record { hand = hand; own = own; peer = peer; ownIsB = eqb b 1 }) m) → AThenB
     unfolding agreed
-    agreed-transcript hand b none e = absurd (not-plain 6 e)
+    agreed-transcript hand b none e = absurd (not-plain _ e)
     agreed-transcript hand b (some n) e =
         let r : b ≡ role = cc in
         let u : ofA (eqb b 1) own peer ++ ofB (eqb b 1) own peer ≡ t = cc in
@@ -223,7 +224,7 @@ module _ (role byte : ℕ) (way : Way) (t : List ℕ) where
   unfolding judge
   judged-transcript mandatory hand ownArea peerArea e =
       negotiated-transcript (synOption ownArea) (synOption peerArea) hand (roleOf (synOption ownArea))
-      (last-decides _ _ (not-refused 2, (not-plain 1, (not-plain 2, (not-plain 3, (not-plain 4, (not-plain 5, tt)))))) e)
+      (last-decides _ _ (not-refused 2, (not-plain _, (not-plain _, (not-plain _, (not-plain _, (not-plain _, (not-plain _, tt))))))) e)
 
 -- the phase after a SYN that is judged: Open if it carries an ACK, else Crossed
 abbrev pub phaseAfter : Bool → Phase
@@ -267,7 +268,7 @@ module _ (d : Door) (ack : Bool) (area : List ℕ) (phase : phaseOf (d .phase) �
       go false = rw (phase, fits)
 
   -- each reason ends in Plain
-  pub receive-plain : (n : ℕ) → verdict ≡ judged.plain n → receive d true ack area .door ≡ plainDoor n
+  pub receive-plain : (n : Cause) → verdict ≡ judged.plain n → receive d true ack area .door ≡ plainDoor n
   receive-plain n e = after-syn ∙ ap (afterJudging d (phaseAfter ack) (synOption area)) e
 
   -- else the verdict is stored
@@ -294,7 +295,7 @@ unfolding emptyHand noSession
 empty-is-zeros = refl
 
 -- Plain drops what was in hand
-pub plain-drops : (n : ℕ) → plainDoor n .hand ≡ emptyHand
+pub plain-drops : (n : Cause) → plainDoor n .hand ≡ emptyHand
 unfolding plainDoor
 plain-drops n = refl
 
@@ -318,10 +319,10 @@ unfolding openDoor
 resumed-open-keeps d e = rw e
 
 -- a door that is not in Plain becomes plain exactly by a reason
-plain-exactly : (m : Option ℕ) (e : Door) (n : ℕ) → (e .phase ≡ 5 → ⊥) → (plainOr m e ≡ plainDoor n) ↔ (m ≡ some n)
+plain-exactly : (m : Option Cause) (e : Door) (n : Cause) → (e .phase ≡ 5 → ⊥) → (plainOr m e ≡ plainDoor n) ↔ (m ≡ some n)
 unfolding plainDoor
 plain-exactly none e n z = (λ q. absurd (z (ap (λ (x : Door). x .phase) q)), λ q. let y : _≡_ {A = ℕ} 0 1 = cc in absurd (omega arith))
-plain-exactly (some m) e n z = (λ q. ap some (ap (λ (x : Door). x .reason) q), λ q. let y : m ≡ n = cc in ap plainDoor y)
+plain-exactly (some m) e n z = (λ q. ap some (ap (λ (x : Door). x .cause) q), λ q. let y : m ≡ n = cc in ap plainDoor y)
 
 module _ (d : Door) (area : List ℕ) (fits : tooLong area ≡ false) where
   -- in Crossed, with SYN+ACK, and in Answered, with SYN: judged by 1, 2, 3, 7
@@ -350,19 +351,19 @@ module _ (d : Door) (area : List ℕ) (fits : tooLong area ≡ false) where
   unfolding phaseOf
   answering-not-plain e q = let z : unencrypted ≡ answering = sym (ap phaseOf q) ∙ e in let y : _≡_ {A = ℕ} 0 1 = cc in omega arith
 
-  by : {x y : Door} (n : ℕ) {R : Type 0} → x ≡ y → (y ≡ plainDoor n) ↔ R → (x ≡ plainDoor n) ↔ R
+  by : {x y : Door} (n : Cause) {R : Type 0} → x ≡ y → (y ≡ plainDoor n) ↔ R → (x ≡ plainDoor n) ↔ R
   by n e r = (λ q. r .0 (sym e ∙ q), λ q. e ∙ r .1 q)
 
   -- plain exactly for the first reason of the second SYN
-  pub crossed-second-reasons : phaseOf (d .phase) ≡ crossed → (n : ℕ) → (receive d true true area .door ≡ plainDoor n) ↔ (secondReason d area ≡ some n)
+  pub crossed-second-reasons : phaseOf (d .phase) ≡ crossed → (n : Cause) → (receive d true true area .door ≡ plainDoor n) ↔ (secondReason d area ≡ some n)
   crossed-second-reasons e n = by n (crossed-second e) (plain-exactly (secondReason d area) (openDoor d) n open-not-plain)
 
-  pub answered-second-reasons : phaseOf (d .phase) ≡ answering → (n : ℕ) → (receive d true false area .door ≡ plainDoor n) ↔ (secondReason d area ≡ some n)
+  pub answered-second-reasons : phaseOf (d .phase) ≡ answering → (n : Cause) → (receive d true false area .door ≡ plainDoor n) ↔ (secondReason d area ≡ some n)
   answered-second-reasons e n = by n (answered-second e) (plain-exactly (secondReason d area) d n (answering-not-plain e))
 
   -- and of the ACK
-  pub crossed-presence-reasons : phaseOf (d .phase) ≡ crossed → (n : ℕ) → (receive d false true area .door ≡ plainDoor n) ↔ (presenceReason area ≡ some n)
+  pub crossed-presence-reasons : phaseOf (d .phase) ≡ crossed → (n : Cause) → (receive d false true area .door ≡ plainDoor n) ↔ (presenceReason area ≡ some n)
   crossed-presence-reasons e n = by n (crossed-presence e) (plain-exactly (presenceReason area) (openDoor d) n open-not-plain)
 
-  pub answered-presence-reasons : phaseOf (d .phase) ≡ answering → (n : ℕ) → (receive d false true area .door ≡ plainDoor n) ↔ (presenceReason area ≡ some n)
+  pub answered-presence-reasons : phaseOf (d .phase) ≡ answering → (n : Cause) → (receive d false true area .door ≡ plainDoor n) ↔ (presenceReason area ≡ some n)
   answered-presence-reasons e n = by n (answered-presence e) (plain-exactly (presenceReason area) (openDoor d) n open-not-plain)

@@ -1,4 +1,5 @@
 // One door: what it keeps, and what its calls answer. The definitions and theorems are in specs/; the crates above have the calls.
+use eno::Cause;
 use eno::InHand;
 use eno::SessionRecord;
 ghost use mathlib.Core.Path.{_≡_};
@@ -17,7 +18,7 @@ pub struct Door {
     pub phase: u8,
     pub mandatory: bool,
     // Why it is Plain.
-    pub reason: u8,
+    pub cause: Cause,
     // The verdict: this end's role, the TEP byte with v, fresh or resumed.
     pub role: u8,
     pub tep: u8,
@@ -65,11 +66,11 @@ pub enum Phase {
     Plain,
 }
 
-// What a call replies. Reasons are document 01's numbers.
+// What a call replies.
 pub enum Reply {
     Refused(Refusal),
     Written(usize),
-    Plain(u8),
+    Plain(Cause),
     Now(Phase),
     Encrypted {
         role: u8,
@@ -135,10 +136,15 @@ pub fn idle_door() -> Door
     ensures { λ r. ⌜ r ≡ idleDoor ⌝ }
 {
     let hand = empty_hand();
+    let cause = Cause {
+        reason: 0,
+        place: 0,
+        kind: 0,
+    };
     Door {
         phase: 0,
         mandatory: false,
-        reason: 0,
+        cause,
         role: 0,
         tep: 0,
         resumed: false,
@@ -151,14 +157,14 @@ pub fn idle_door() -> Door
 }
 
 // A door in Plain: what was in hand is dropped.
-pub fn plain_door(reason: u8) -> Door
-    ensures { λ r. ⌜ r ≡ plainDoor reason ⌝ }
+pub fn plain_door(cause: Cause) -> Door
+    ensures { λ r. ⌜ r ≡ plainDoor cause ⌝ }
 {
     let hand = empty_hand();
     Door {
         phase: 5,
         mandatory: false,
-        reason,
+        cause,
         role: 0,
         tep: 0,
         resumed: false,

@@ -79,16 +79,16 @@ partOf s (found i n) = part i n s
 unfoldable pub synOption : List ℕ → List ℕ
 synOption s = partOf s (finding s true)
 
--- what the finder's companion says: found, none, unreadable, or refused with a number
+-- what the finder's companion says: found, none, unreadable with the option that makes the area so, or refused with a number
 pub data Status : Type 0 where
   saysFound : Status
   saysNone : Status
-  saysUnreadable : Status
+  saysUnreadable : Fault → Status
   saysRefused : ℕ → Status
 
 -- refused with 2: option area above 40 bytes
 unfoldable pub status : Finding → Status
 status refused = saysRefused 2
-status (unreadable f) = saysUnreadable
+status (unreadable f) = saysUnreadable f
 status missing = saysNone
 status (found i n) = saysFound

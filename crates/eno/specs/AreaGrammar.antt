@@ -83,7 +83,7 @@ module _ (s : List ℕ) where
   abbrev Fit : TcpOption → List ℕ → Type 0
   Fit o r = IsProper o
 
-  decodes : (i : ℕ) (x : Placed) (j : ℕ) → optionAt s i ≡ item x j → (drop i s ≡ encodeOption (valueOf s x) ++ drop j s) × IsProper (valueOf s x)
+  pub decodes : (i : ℕ) (x : Placed) (j : ℕ) → optionAt s i ≡ item x j → (drop i s ≡ encodeOption (valueOf s x) ++ drop j s) × IsProper (valueOf s x)
   unfolding valueOf encodeOption
   decodes i x j e = go (option-case s i x j e)
     where
@@ -99,7 +99,7 @@ module _ (s : List ℕ) where
           let len : n ≡ length (part (i + 2) (n - 2) s) + 2 = omega arith in
           rw (ex, ej, v) (split-option s i n two fits ∙ ap (λ m. getD s i 0 ∷ m ∷ (part (i + 2) (n - 2) s ++ drop (i + n) s)) len, (k0, k1))
 
-  encodes : (i : ℕ) (o : TcpOption) (r : List ℕ) → drop i s ≡ encodeOption o ++ r → IsProper o
+  pub encodes : (i : ℕ) (o : TcpOption) (r : List ℕ) → drop i s ≡ encodeOption o ++ r → IsProper o
       → (x : Placed) × (j : ℕ) × (optionAt s i ≡ item x j) × (valueOf s x ≡ o) × (drop j s ≡ r)
   unfolding valueOf encodeOption
   encodes i noOperation r e p =

@@ -1,4 +1,4 @@
--- Cases K1 to K12 of document 01's bench table, with those on the record R: one table, one claim about all rows.
+-- Cases K1 to K12 of document 01's bench table, with those on the record R and those on unreadable areas: one table, one claim about all rows.
 use Prim.Native.Nat.{ℕ}
 use mathlib.Core.Path.{_≡_, refl}
 use mathlib.Core.List.{List, [], _∷_, _++_, map}
@@ -9,7 +9,8 @@ use Rattle.wire.specs.Bytes.{part, sameBytes}
 use Rattle.wire.specs.Number.{bigEndian}
 use Rattle.wire.specs.Frame.{frameIdAfter, xorBytes, framePrefix, frameId, nonce}
 use Rattle.eno.specs.Walk.{Reading, readable, faulty, items, itemsOf}
-use Rattle.eno.specs.Area.{Finding, missing, found, optionAt, options, enos, choose, chosen, finding, partOf, synOption}
+use Rattle.eno.specs.Area.{Finding, unreadable, missing, found, optionAt, options, enos, choose, chosen, finding, partOf, synOption}
+use Rattle.eno.specs.Cause.{numbered}
 use Rattle.eno.specs.Suboption.{suboptionAt, suboptions, isIllFormed, globals, globalByte, roleBit, awareBit, teps}
 use Rattle.eno.specs.Tep.{isKnown}
 use Rattle.eno.specs.Session.{sentHalf, expectedHalf}
@@ -17,6 +18,7 @@ use Rattle.eno.specs.Judge.{isFresh, isBad, isResumption, halfOf, Way, f
 use Rattle.eno.specs.Option.{Content, globalWith, tepWith}
 use Rattle.eno.specs.Content.{contentOf, contents}
 use Rattle.eno.specs.declared.SessionRecord.{SessionRecord}
+use Rattle.eno.specs.declared.Cause.{Cause}
 
 -- what a case gives
 pub data Given : Type 0 where
@@ -73,6 +75,13 @@ nineBytes = 1 ∷ 2 ∷ 3 ∷ 4 ∷ 5 ∷ 6 ∷ 7 ∷ 8 ∷ 9 ∷ []
 abbrev illFormed : Expected
 illFormed = suboptionsAre (faulty tt)
 
+-- the option of the kind k at the place i makes the area unreadable
+abbrev faultAt : ℕ → ℕ → Finding
+faultAt i k = unreadable (record { place = i; kind = k })
+
+abbrev brokenAt : ℕ → ℕ → Cause
+brokenAt i k = record { reason = 1; place = i; kind = k }
+
 unfoldable pub table : List Row
 table =
     -- K1: 23 fresh, transcript those 8 bytes; A's view, then B's
@@ -83,7 +92,7 @@ table =
     -- K3: 21
     ∷ row (areas (0x45 ∷ 4 ∷ 0x21 ∷ 0x23 ∷ []) (0x45 ∷ 5 ∷ 1 ∷ 0x21 ∷ 0x2f ∷ [])) (judgement (encrypt 0 0x21 fresh (0x45 ∷ 4 ∷ 0x21 ∷ 0x23 ∷ 0x45 ∷ 5 ∷ 1 ∷ 0x21 ∷ 0x2f ∷ [])))
     -- K4: reason 4
-    ∷ row (areas (0x45 ∷ 3 ∷ 0x23 ∷ []) (0x45 ∷ 3 ∷ 0x23 ∷ [])) (judgement (plain 4))
+    ∷ row (areas (0x45 ∷ 3 ∷ 0x23 ∷ []) (0x45 ∷ 3 ∷ 0x23 ∷ [])) (judgement (plain (numbered 4)))
     -- K5: b = 0
     ∷ row (role (0x45 ∷ 5 ∷ 0 ∷ 1 ∷ 0x23 ∷ [])) (bit 0)
     -- K6: TEPs 23 and 21
@@ -105,9 +114,32 @@ table =
     -- R in hand, 45 0d 21 a3 00 .. 08 sent. Answer 45 0d 01 a3 09 .. 11: resumed
     ∷ row (withR (0x45 ∷ 13 ∷ 0x21 ∷ 0xa3 ∷ lowHalf) (0x45 ∷ 13 ∷ 1 ∷ 0xa3 ∷ highHalf)) (judgement (encrypt 0 0xa3 resumed (0x45 ∷ 13 ∷ 0x21 ∷ 0xa3 ∷ lowHalf ++ 0x45 ∷ 13 ∷ 1 ∷ 0xa3 ∷ highHalf)))
     -- answer 45 0d 01 a3 00 .. 08: reason 6
-    ∷ row (withR (0x45 ∷ 13 ∷ 0x21 ∷ 0xa3 ∷ lowHalf) (0x45 ∷ 13 ∷ 1 ∷ 0xa3 ∷ lowHalf)) (judgement (plain 6))
+    ∷ row (withR (0x45 ∷ 13 ∷ 0x21 ∷ 0xa3 ∷ lowHalf) (0x45 ∷ 13 ∷ 1 ∷ 0xa3 ∷ lowHalf)) (judgement (plain (numbered 6)))
     -- answer 45 04 01 23: fresh
     ∷ row (withR (0x45 ∷ 13 ∷ 0x21 ∷ 0xa3 ∷ lowHalf) (0x45 ∷ 4 ∷ 1 ∷ 0x23 ∷ [])) (judgement (encrypt 0 0x23 fresh (0x45 ∷ 13 ∷ 0x21 ∷ 0xa3 ∷ lowHalf ++ 0x45 ∷ 4 ∷ 1 ∷ 0x23 ∷ [])))
+    -- both areas unreadable: this end's own
+    ∷ row (areas (2 ∷ []) (1 ∷ 3 ∷ 1 ∷ [])) (judgement (plain (brokenAt 0 2)))
+    -- its own readable: the other side's
+    ∷ row (areas (0x45 ∷ 3 ∷ 0x23 ∷ []) (1 ∷ 3 ∷ 1 ∷ [])) (judgement (plain (brokenAt 1 3)))
+    ∷ row (areas (0x45 ∷ 3 ∷ 0x23 ∷ []) (0x45 ∷ 3 ∷ 0x23 ∷ 2 ∷ [])) (judgement (plain (brokenAt 3 2)))
+    -- a refused area before an unreadable one, this before one with no option
+    ∷ row (areas (2 ∷ []) (replicate 41 1)) (judgement (refuse 2))
+    ∷ row (areas [] (1 ∷ 3 ∷ 1 ∷ [])) (judgement (plain (brokenAt 1 3)))
+    -- the length byte absent, behind whole options
+    ∷ row (area (1 ∷ 1 ∷ 2 ∷ 4 ∷ 5 ∷ 0xb4 ∷ 8 ∷ []) true) (finds (faultAt 6 8))
+    -- below 2: ENO itself
+    ∷ row (area (0x45 ∷ 1 ∷ []) true) (finds (faultAt 0 0x45))
+    -- the largest place
+    ∷ row (area (replicate 39 1 ++ 0x45 ∷ []) true) (finds (faultAt 39 0x45))
+    -- too long
+    ∷ row (area (1 ∷ 8 ∷ 4 ∷ 0 ∷ []) true) (finds (faultAt 1 8))
+    -- behind an ENO option, and behind two
+    ∷ row (area (0x45 ∷ 3 ∷ 0x23 ∷ 2 ∷ []) true) (finds (faultAt 3 2))
+    ∷ row (area (0x45 ∷ 3 ∷ 0x23 ∷ 2 ∷ []) false) (finds (faultAt 3 2))
+    ∷ row (area (0x45 ∷ 2 ∷ 0x45 ∷ 2 ∷ 2 ∷ 1 ∷ []) true) (finds (faultAt 4 2))
+    ∷ row (area (0x45 ∷ 2 ∷ 0x45 ∷ 2 ∷ 2 ∷ 1 ∷ []) false) (finds (faultAt 4 2))
+    -- an end mark hides what follows
+    ∷ row (area (0x45 ∷ 3 ∷ 0x23 ∷ 0 ∷ 2 ∷ []) true) (finds (found 0 3))
     ∷ []
 
 -- each row's answer is the one expected

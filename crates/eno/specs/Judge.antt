@@ -8,10 +8,12 @@ use lib.ListN.{length}
 use Rattle.wire.specs.Bytes.{part, sameBytes}
 use Rattle.eno.specs.Walk.{listed}
 use Rattle.eno.specs.Area.{Finding, refused, unreadable, missing, found, finding, synOption, mostArea}
+use Rattle.eno.specs.Cause.{numbered, blame}
 use Rattle.eno.specs.Suboption.{Suboption, Sent, suboptions, isIllFormed, roleBit, awareBit, teps, name}
 use Rattle.eno.specs.Tep.{isKnown}
 use Rattle.eno.specs.Session.{sentHalf, expectedHalf, halfSize}
 use Rattle.eno.specs.declared.SessionRecord.{SessionRecord}
+use Rattle.eno.specs.declared.Cause.{Cause}
 
 -- data of a known TEP: v = 0 or under 9 bytes is fresh, 9 to 17 bytes is resumption, 18 or more is bad
 unfoldable pub isFresh : Sent → Bool
@@ -114,12 +116,12 @@ lastValid valid (x ∷ l) = orElse (lastValid valid l) (negotiatedBy x (valid (n
 -- what an end comes to: a refusal, plain TCP with its reason, or role, TEP byte with v, way and transcript
 pub data Judged : Type 0 where
   refuse : ℕ → Judged
-  plain : ℕ → Judged
+  plain : Cause → Judged
   encrypt : (role byte : ℕ) → Way → (transcript : List ℕ) → Judged
 
 -- the negotiated TEP is the last valid one in B's option; the transcript is A's option followed by B's; reason 6 where no TEP is valid
 unfoldable pub agreed : ℕ → Sides → Option Negotiated → Judged
-agreed role s none = plain 6
+agreed role s none = plain (numbered 6)
 agreed role s (some n) = encrypt role (n .byte) (n .way) (ofA (s .ownIsB) (s .own) (s .peer) ++ ofB (s .ownIsB) (s .own) (s .peer))
 
 unfoldable pub negotiate : ℕ → Sides → Judged
@@ -160,11 +162,12 @@ judge mandatory hand ownArea peerArea =
     let peer = synOption peerArea in
     firstOf (
     (tooLong ownArea || tooLong peerArea, refuse 2)
-    ∷ (isUnreadable (finding ownArea true) || isUnreadable (finding peerArea true), plain 1)
-    ∷ (isMissing (finding ownArea true) || isMissing (finding peerArea true), plain 2)
-    ∷ (isIllFormed (suboptions own) || isIllFormed (suboptions peer), plain 3)
-    ∷ (eqb (roleOf own) (roleOf peer), plain 4)
-    ∷ (mandatory && eqb (awareOf peer) 0, plain 5)
+    ∷ (isUnreadable (finding ownArea true), plain (blame (finding ownArea true)))
+    ∷ (isUnreadable (finding peerArea true), plain (blame (finding peerArea true)))
+    ∷ (isMissing (finding ownArea true) || isMissing (finding peerArea true), plain (numbered 2))
+    ∷ (isIllFormed (suboptions own) || isIllFormed (suboptions peer), plain (numbered 3))
+    ∷ (eqb (roleOf own) (roleOf peer), plain (numbered 4))
+    ∷ (mandatory && eqb (awareOf peer) 0, plain (numbered 5))
     ∷ []
     )
     (negotiate (roleOf own) (record { hand = hand; own = own; peer = peer; ownIsB = eqb (roleOf own) 1 }))

@@ -79,3 +79,11 @@ pub struct InHand {
     pub held: bool,
     pub session: SessionRecord,
 }
+
+// Why a connection is plain TCP: document 01's reason and, of an unreadable area (1), where the option stands that makes it so, and its kind; else zeros.
+#[repr(C)]
+pub struct Cause {
+    pub reason: u8,
+    pub place: u8,
+    pub kind: u8,
+}

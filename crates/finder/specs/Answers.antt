@@ -41,20 +41,20 @@ pub record Locates (s : List ℕ) (syn : Bool) (r : Located) : Type 0 where
 abbrev pub statusOf : FindStatus → Status
 statusOf says.Found = saysFound
 statusOf says.Nothing = saysNone
-statusOf says.Unreadable = saysUnreadable
+statusOf (says.Unreadable i k) = saysUnreadable (record { place = i; kind = k })
 statusOf says.Refused = saysRefused 2
 
 -- the answer with a word
 abbrev wordOf : Status → FindStatus
 wordOf saysFound = says.Found
 wordOf saysNone = says.Nothing
-wordOf saysUnreadable = says.Unreadable
+wordOf (saysUnreadable f) = says.Unreadable (f .place) (f .kind)
 wordOf (saysRefused n) = says.Refused
 
 word-back : (a : FindStatus) → wordOf (statusOf a) ≡ a
 word-back says.Found = refl
 word-back says.Nothing = refl
-word-back says.Unreadable = refl
+word-back (says.Unreadable i k) = refl
 word-back says.Refused = refl
 
 -- the view loses nothing: two answers with the same word are the same

@@ -41,7 +41,7 @@ fn option_at(area: &[u8], i: usize) -> OptionAt
 // Where the ENO option of an area stands, or why there is none.
 enum Located {
     Refused,
-    Unreadable { place: usize, kind: u8 },
+    Unreadable { place: u8, kind: u8 },
     Missing,
     Found { start: usize, len: usize },
 }
@@ -63,7 +63,8 @@ fn locate(area: &[u8], syn: bool) -> Located
                 break;
             }
             OptionAt::Fault { kind } => {
-                return Located::Unreadable { place: i, kind };
+                let at = i as u8;
+                return Located::Unreadable { place: at, kind };
             }
             OptionAt::Item { kind, len: n, next } => {
                 if kind == 0x45 {
@@ -105,7 +106,8 @@ pub fn find_option(area: &[u8], syn: bool) -> &[u8]
 pub enum FindStatus {
     Found,
     Nothing,
-    Unreadable,
+    // The option that makes the area unreadable: where it begins, and its kind.
+    Unreadable { place: u8, kind: u8 },
     Refused,
 }
 
@@ -116,7 +118,7 @@ pub fn find_status(area: &[u8], syn: bool) -> FindStatus
     match outcome {
         Located::Found { start: _, len: _ } => FindStatus::Found,
         Located::Missing => FindStatus::Nothing,
-        Located::Unreadable { place: _, kind: _ } => FindStatus::Unreadable,
+        Located::Unreadable { place, kind } => FindStatus::Unreadable { place, kind },
         Located::Refused => FindStatus::Refused,
     }
 }

@@ -24,7 +24,7 @@ phase-back unencrypted = refl
 abbrev readAs : (kind : ℕ) → ReplyNumbers → (secret : List ℕ) → Reply
 readAs zero r secret = refused (r .number)
 readAs (suc zero) r secret = written (r .number)
-readAs (suc (suc zero)) r secret = plain (r .number)
+readAs (suc (suc zero)) r secret = plain (record { reason = r .number; place = r .place; kind = r .option })
 readAs (suc (suc (suc zero))) r secret = nowIn (phaseOf (r .number))
 readAs (suc (suc (suc (suc zero)))) r secret = encrypted (r .role) (r .tep) (wayOf (r .resumed)) (r .number) secret
 readAs (suc (suc (suc (suc (suc zero))))) r secret = done
@@ -37,7 +37,7 @@ read-back : (x : Reply) → readBack (numbersOf x) (secretBeside x) ≡ x
 unfolding numbersOf
 read-back (refused n) = refl
 read-back (written n) = refl
-read-back (plain n) = refl
+read-back (plain c) = refl
 read-back (nowIn p) = ap nowIn (phase-back p)
 read-back (encrypted role byte way n secret) = ap (λ (w : Way). encrypted role byte w n secret) (way-back way)
 read-back done = refl
@@ -48,26 +48,26 @@ pub numbers-tell : (x y : Reply) → numbersOf x ≡ numbersOf y → secretBesid
 numbers-tell x y e f = sym (read-back x) ∙ (ap₂ readBack e f ∙ read-back y)
 
 -- the finder's word is read back too
-abbrev wordAs : (kind number : ℕ) → Status
-wordAs zero n = saysRefused n
-wordAs (suc zero) n = saysNone
-wordAs (suc (suc zero)) n = saysNone
-wordAs (suc (suc (suc zero))) n = saysNone
-wordAs (suc (suc (suc (suc zero)))) n = saysNone
-wordAs (suc (suc (suc (suc (suc zero))))) n = saysNone
-wordAs (suc (suc (suc (suc (suc (suc zero)))))) n = saysNone
-wordAs (suc (suc (suc (suc (suc (suc (suc zero))))))) n = saysFound
-wordAs (suc (suc (suc (suc (suc (suc (suc (suc zero)))))))) n = saysNone
-wordAs (suc (suc (suc (suc (suc (suc (suc (suc (suc k))))))))) n = saysUnreadable
+abbrev wordAs : (kind : ℕ) → ReplyNumbers → Status
+wordAs zero r = saysRefused (r .number)
+wordAs (suc zero) r = saysNone
+wordAs (suc (suc zero)) r = saysNone
+wordAs (suc (suc (suc zero))) r = saysNone
+wordAs (suc (suc (suc (suc zero)))) r = saysNone
+wordAs (suc (suc (suc (suc (suc zero))))) r = saysNone
+wordAs (suc (suc (suc (suc (suc (suc zero)))))) r = saysNone
+wordAs (suc (suc (suc (suc (suc (suc (suc zero))))))) r = saysFound
+wordAs (suc (suc (suc (suc (suc (suc (suc (suc zero)))))))) r = saysNone
+wordAs (suc (suc (suc (suc (suc (suc (suc (suc (suc k))))))))) r = saysUnreadable (record { place = r .place; kind = r .option })
 
 abbrev wordBack : ReplyNumbers → Status
-wordBack r = wordAs (r .kind) (r .number)
+wordBack r = wordAs (r .kind) r
 
 word-back : (x : Status) → wordBack (statusNumbers x) ≡ x
 unfolding statusNumbers
 word-back saysFound = refl
 word-back saysNone = refl
-word-back saysUnreadable = refl
+word-back (saysUnreadable f) = refl
 word-back (saysRefused n) = refl
 
 pub status-tells : (x y : Status) → statusNumbers x ≡ statusNumbers y → x ≡ y

@@ -7,7 +7,7 @@ use Rattle.door.specs.Door.{phaseNumber}
 use Rattle.door.specs.Outcome.{Reply, refused, written, plain, nowIn, encrypted, done, holds}
 use Rattle.door.specs.Answers.{secretBeside}
 use Rattle.unit.specs.Run.{Step}
-use Rattle.host_reply.specs.Numbers.{ofKind, wayNumber}
+use Rattle.host_reply.specs.Numbers.{ofKind, plainNumbers, brokenNumbers, wayNumber}
 use Rattle.host_reply.specs.declared.ReplyNumbers.{ReplyNumbers}
 use Rattle.host.specs.declared.LinkReply.{LinkReply}
 use Rattle.host.specs.declared.LinkResult.{LinkResult}
@@ -16,9 +16,9 @@ use Rattle.host.specs.declared.LinkResult.{LinkResult}
 unfoldable pub numbersOf : Reply → ReplyNumbers
 numbersOf (refused n) = ofKind 0 n
 numbersOf (written n) = ofKind 1 n
-numbersOf (plain n) = ofKind 2 n
+numbersOf (plain c) = plainNumbers c
 numbersOf (nowIn p) = ofKind 3 (phaseNumber p)
-numbersOf (encrypted role byte way n secret) = record { number = n; kind = 4; role = role; tep = byte; resumed = wayNumber way }
+numbersOf (encrypted role byte way n secret) = record { number = n; kind = 4; role = role; tep = byte; resumed = wayNumber way; place = 0; option = 0 }
 numbersOf done = ofKind 5 0
 numbersOf (holds n) = ofKind 6 n
 
@@ -26,7 +26,7 @@ numbersOf (holds n) = ofKind 6 n
 unfoldable pub statusNumbers : Status → ReplyNumbers
 statusNumbers saysFound = ofKind 7 0
 statusNumbers saysNone = ofKind 8 0
-statusNumbers saysUnreadable = ofKind 9 0
+statusNumbers (saysUnreadable f) = brokenNumbers (f .place) (f .kind)
 statusNumbers (saysRefused n) = ofKind 0 n
 
 -- a step of the unit as an exported call gives it back

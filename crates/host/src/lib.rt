@@ -4,8 +4,9 @@ use door::Refusal;
 use door::Reply;
 use finder::FindStatus;
 use host_reply::ReplyNumbers;
+use host_reply::broken_numbers;
 use host_reply::of_kind;
-use host_reply::wide;
+use host_reply::plain_numbers;
 use unit::LinkUnit;
 ghost use mathlib.Core.Path.{_≡_};
 ghost use mathlib.Core.List.{[]};
@@ -70,10 +71,7 @@ fn reply_numbers(reply: Reply) -> ReplyNumbers
             of_kind(0, number)
         }
         Reply::Written(length) => of_kind(1, length),
-        Reply::Plain(reason) => {
-            let number = wide(reason);
-            of_kind(2, number)
-        }
+        Reply::Plain(cause) => plain_numbers(cause),
         Reply::Now(phase) => {
             let number = phase_number(phase);
             of_kind(3, number)
@@ -91,6 +89,8 @@ fn reply_numbers(reply: Reply) -> ReplyNumbers
                     role,
                     tep,
                     resumed: 1,
+                    place: 0,
+                    option: 0,
                 };
             }
             ReplyNumbers {
@@ -99,6 +99,8 @@ fn reply_numbers(reply: Reply) -> ReplyNumbers
                 role,
                 tep,
                 resumed: 0,
+                place: 0,
+                option: 0,
             }
         }
         Reply::Done => of_kind(5, 0),
@@ -276,7 +278,7 @@ pub extern "C" fn door_link_erase(unit: LinkUnit) -> LinkReply
     LinkReply { unit: after, reply }
 }
 
-// Whether an option area has an ENO option: 7 found, 8 none, 9 unreadable; refused with 2 above 40 bytes.
+// Whether an option area has an ENO option: 7 found, 8 none, 9 unreadable, with place and kind of the option that makes it so; refused with 2 above 40 bytes.
 #[no_mangle]
 pub extern "C" fn door_link_find_status(area: &[u8], syn: bool) -> ReplyNumbers
     ensures { λ r. ⌜ r ≡ statusNumbers (status (finding (now (area .entry)) syn)) ⌝ }
@@ -285,7 +287,7 @@ pub extern "C" fn door_link_find_status(area: &[u8], syn: bool) -> ReplyNumbers
     match says {
         FindStatus::Found => of_kind(7, 0),
         FindStatus::Nothing => of_kind(8, 0),
-        FindStatus::Unreadable => of_kind(9, 0),
+        FindStatus::Unreadable { place, kind } => broken_numbers(place, kind),
         FindStatus::Refused => of_kind(0, 2),
     }
 }

@@ -16,12 +16,12 @@ abbrev judgedBack : JudgementNumbers → Judged
 judgedBack x =
     let r = x .reply in
     cond (eqb (r .kind) 0) (refuse (r .number))
-    (cond (eqb (r .kind) 2) (plain (r .number)) (encrypt (r .role) (r .tep) (wayOf (r .resumed)) (take (r .number) (x .transcript))))
+    (cond (eqb (r .kind) 2) (plain (record { reason = r .number; place = r .place; kind = r .option })) (encrypt (r .role) (r .tep) (wayOf (r .resumed)) (take (r .number) (x .transcript))))
 
 judged-back : (x : Judged) → judgedBack (judgementNumbers x) ≡ x
 unfolding judgedNumbers judgementNumbers padded
 judged-back (refuse n) = refl
-judged-back (plain n) = refl
+judged-back (plain c) = refl
 judged-back (encrypt role byte way t) = ap₂ (encrypt role byte) (way-back way) (take-at t _ (length t) refl)
 
 pub judgement-numbers-tell : (x y : Judged) → judgementNumbers x ≡ judgementNumbers y → x ≡ y

@@ -3,13 +3,13 @@ use eno::InHand;
 use host_reply::ReplyNumbers;
 use host_reply::flag_number;
 use host_reply::of_kind;
-use judge::Reason;
+use host_reply::plain_numbers;
 use judge::Verdict;
 ghost use mathlib.Core.Path.{_≡_};
 ghost use mathlib.Core.List.{[]};
 ghost use Rattle.eno.specs.Session.{inHand};
 ghost use Rattle.eno.specs.Judge.{judge};
-ghost use Rattle.judge.specs.Answers.{reasonNumber, judgedOf};
+ghost use Rattle.judge.specs.Answers.{judgedOf};
 ghost use Rattle.host_judge.specs.Replies.{judgedNumbers, judgementNumbers};
 
 // What the judge gives back; the transcript is zeros after its own length.
@@ -19,20 +19,6 @@ pub struct JudgementNumbers {
     pub transcript: [u8; 80],
 }
 
-fn reason_number(reason: Reason) -> usize
-    ensures { λ r. ⌜ r ≡ reasonNumber reason ⌝ }
-{
-    match reason {
-        Reason::Unreadable => 1,
-        Reason::NoOption => 2,
-        Reason::IllFormed => 3,
-        Reason::EqualRoles => 4,
-        Reason::NotAware => 5,
-        Reason::NoValidTep => 6,
-        Reason::Altered => 7,
-    }
-}
-
 // A verdict, with the bytes of its transcript.
 fn verdict_numbers(verdict: Verdict, length: usize) -> ReplyNumbers
     ensures { λ r. ⌜ r ≡ judgedNumbers (judgedOf verdict []) length ⌝ }
@@ -40,8 +26,8 @@ fn verdict_numbers(verdict: Verdict, length: usize) -> ReplyNumbers
     match verdict {
         Verdict::Refused => of_kind(0, 2),
         Verdict::Plain(reason) => {
-            let number = reason_number(reason);
-            of_kind(2, number)
+            let cause = judge::cause_of(reason);
+            plain_numbers(cause)
         }
         Verdict::Encrypted { role, tep, resumed } => {
             let again = flag_number(resumed);
@@ -51,6 +37,8 @@ fn verdict_numbers(verdict: Verdict, length: usize) -> ReplyNumbers
                 role,
                 tep,
                 resumed: again,
+                place: 0,
+                option: 0,
             }
         }
     }

@@ -1,6 +1,7 @@
 // The reply in plain numbers that the exported calls share.
+use eno::Cause;
 ghost use mathlib.Core.Path.{_≡_};
-ghost use Rattle.host_reply.specs.Numbers.{ofKind, flagNumber};
+ghost use Rattle.host_reply.specs.Numbers.{withPlace, ofKind, plainNumbers, brokenNumbers, flagNumber};
 
 // A reply in plain numbers; a number that a kind of reply does not have is 0.
 #[repr(C)]
@@ -13,6 +14,9 @@ pub struct ReplyNumbers {
     pub role: u8,
     pub tep: u8,
     pub resumed: u8,
+    // Of an unreadable area (9, and 2 with reason 1): where the option begins that makes it so, and its kind.
+    pub place: u8,
+    pub option: u8,
 }
 
 // A byte as a number of any size.
@@ -29,9 +33,9 @@ pub fn flag_number(flag: bool) -> u8
     if flag { 1 } else { 0 }
 }
 
-// A reply of one number.
-pub fn of_kind(kind: u8, number: usize) -> ReplyNumbers
-    ensures { λ r. ⌜ r ≡ ofKind kind number ⌝ }
+// A reply without role, TEP and way.
+fn with_place(kind: u8, number: usize, place: u8, option: u8) -> ReplyNumbers
+    ensures { λ r. ⌜ r ≡ withPlace kind number place option ⌝ }
 {
     ReplyNumbers {
         number,
@@ -39,5 +43,29 @@ pub fn of_kind(kind: u8, number: usize) -> ReplyNumbers
         role: 0,
         tep: 0,
         resumed: 0,
+        place,
+        option,
     }
+}
+
+// A reply of one number.
+pub fn of_kind(kind: u8, number: usize) -> ReplyNumbers
+    ensures { λ r. ⌜ r ≡ ofKind kind number ⌝ }
+{
+    with_place(kind, number, 0, 0)
+}
+
+// Plain TCP: its reason, with place and kind of an unreadable area.
+pub fn plain_numbers(cause: Cause) -> ReplyNumbers
+    ensures { λ r. ⌜ r ≡ plainNumbers cause ⌝ }
+{
+    let number = cause.reason as usize;
+    with_place(2, number, cause.place, cause.kind)
+}
+
+// The finder's word of an unreadable area, with its place and kind.
+pub fn broken_numbers(place: u8, kind: u8) -> ReplyNumbers
+    ensures { λ r. ⌜ r ≡ brokenNumbers place kind ⌝ }
+{
+    with_place(9, 0, place, kind)
 }

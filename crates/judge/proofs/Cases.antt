@@ -10,6 +10,9 @@ use borrow.Author.Tests.{eq-eqb, ne-eqb, lt-ltb}
 use lib.Dec.{eqb, ltb}
 use lib.ListN.{length}
 use Rattle.eno.specs.Area.{Placed, Fault, Finding, refused, unreadable, missing, found, finding, partOf, synOption, mostArea, choose, chosen, enos, options}
+use Rattle.eno.specs.Area.{status}
+use Rattle.eno.specs.Cause.{numbered, blame}
+use Rattle.eno.specs.declared.Cause.{Cause}
 use Rattle.eno.specs.Walk.{Reading, readable, faulty, listed}
 use Rattle.eno.specs.Suboption.{suboptions, isIllFormed, awareBit, globalByte}
 use Rattle.eno.specs.Judge.{ofA, ofB, Judged, refuse, plain, encrypt, negotiate, firstOf, isUnreadable, isMissing, tooLong, roleOf, awareOf, tepsOf, judge}
@@ -20,7 +23,7 @@ use Rattle.suboptions.specs.Laws.{saying, summary-says}
 use Rattle.suboptions.specs.declared.Summary.{Summary}
 use Rattle.judge.specs.Answers.{judgedOf, transcriptOf, padded, withoutTranscript, Judges}
 use Rattle.valid_tep.specs.Best.{bestOf}
-use Rattle.judge.specs.Quick.{concluded, negotiated, rankOf, notFound}
+use Rattle.judge.specs.Quick.{concluded, negotiated, missedAs, notFound}
 use Rattle.valid_tep.specs.declared.Best.{Best}
 use Rattle.judge.specs.declared.Reason.the-variants as reason
 use Rattle.judge.specs.declared.Verdict.{Verdict}
@@ -59,18 +62,6 @@ long-refused s = go (tooLong s)
     go : (b : Bool) → b ≡ isRefused (cond b refused (chosen true (options s)))
     go true = refl
     go false = sym (chosen-not-refused (options s))
-
-rank-refused : (f : Finding) → eqb (rankOf f) 0 ≡ isRefused f
-rank-refused refused = refl
-rank-refused (unreadable f) = refl
-rank-refused missing = refl
-rank-refused (found i n) = refl
-
-rank-unreadable : (f : Finding) → eqb (rankOf f) 1 ≡ isUnreadable f
-rank-unreadable refused = refl
-rank-unreadable (unreadable f) = refl
-rank-unreadable missing = refl
-rank-unreadable (found i n) = refl
 
 -- not found, or found
 abbrev Missed : Finding → Type 0
@@ -119,15 +110,28 @@ aware-or-not o = go (globalByte (listed (suboptions o)))
       | no e ↦ let q : x / 2 % 2 ≡ 1 = omega arith in simp q
     ]
 
--- the first three tests, by Booleans: refused, unreadable, missing
+-- the first tests, by what the finder says of each area: refused, unreadable, missing
 module _ (rest : Judged) where
-  by-tests : (r u m : Bool) → r || u || m ≡ true
-      → Judges (cond r (refuse 2) (cond u (plain 1) (cond m (plain 2) rest)))
-      (cond r (withoutTranscript verdict.Refused) (cond u (withoutTranscript (verdict.Plain reason.Unreadable)) (withoutTranscript (verdict.Plain reason.NoOption))))
-  by-tests true u m e = judges-plainly (refuse 2) verdict.Refused refl refl
-  by-tests false true m e = judges-plainly (plain 1) (verdict.Plain reason.Unreadable) refl refl
-  by-tests false false true e = judges-plainly (plain 2) (verdict.Plain reason.NoOption) refl refl
-  by-tests false false false e = absurd (false≢true e)
+  by-findings : (f g : Finding) → (isRefused f || isRefused g) || (isUnreadable f || isUnreadable g) || (isMissing f || isMissing g) ≡ true
+      → Judges (cond (isRefused f || isRefused g) (refuse 2) (cond (isUnreadable f) (plain (blame f)) (cond (isUnreadable g) (plain (blame g)) (cond (isMissing f || isMissing g) (plain (numbered 2)) rest))))
+      (withoutTranscript (missedAs (status f) (status g)))
+  unfolding status
+  by-findings refused refused e = judges-plainly _ _ refl refl
+  by-findings refused (unreadable y) e = judges-plainly _ _ refl refl
+  by-findings refused missing e = judges-plainly _ _ refl refl
+  by-findings refused (found j m) e = judges-plainly _ _ refl refl
+  by-findings (unreadable x) refused e = judges-plainly _ _ refl refl
+  by-findings (unreadable x) (unreadable y) e = judges-plainly _ _ refl refl
+  by-findings (unreadable x) missing e = judges-plainly _ _ refl refl
+  by-findings (unreadable x) (found j m) e = judges-plainly _ _ refl refl
+  by-findings missing refused e = judges-plainly _ _ refl refl
+  by-findings missing (unreadable y) e = judges-plainly _ _ refl refl
+  by-findings missing missing e = judges-plainly _ _ refl refl
+  by-findings missing (found j m) e = judges-plainly _ _ refl refl
+  by-findings (found i n) refused e = judges-plainly _ _ refl refl
+  by-findings (found i n) (unreadable y) e = judges-plainly _ _ refl refl
+  by-findings (found i n) missing e = judges-plainly _ _ refl refl
+  by-findings (found i n) (found j m) e = absurd (false≢true e)
 
 or-left : (a b c x y z : Bool) → a || b || c ≡ true → (a || x) || (b || y) || (c || z) ≡ true
 or-left true b c x y z e = refl
@@ -159,9 +163,7 @@ module _ (mandatory : Bool) (hand : Option SessionRecord) (ownArea peerArea : Li
 
   not-both : (isRefused f || isRefused g) || (isUnreadable f || isUnreadable g) || (isMissing f || isMissing g) ≡ true → Judges J (notFound ownArea peerArea)
   unfolding judge firstOf notFound
-  not-both e =
-      rw (long-refused ownArea, long-refused peerArea, rank-refused f, rank-refused g, rank-unreadable f, rank-unreadable g)
-      (by-tests _ (isRefused f || isRefused g) (isUnreadable f || isUnreadable g) (isMissing f || isMissing g) e)
+  not-both e = rw (long-refused ownArea, long-refused peerArea) (by-findings _ f g e)
 
   module _ (own peer : List ℕ) (eo : own ≡ partOf ownArea (finding ownArea true)) (ep : peer ≡ partOf peerArea (finding peerArea true)) where
     pub judge-missed-own : length own ≡ 0 → (r : Judgement) → r ≡ notFound ownArea peerArea → Judges J r
@@ -178,9 +180,9 @@ module _ (mandatory : Bool) (hand : Option SessionRecord) (ownArea peerArea : Li
 
     module _ (no : length own ≡ 0 → ⊥) (np : length peer ≡ 0 → ⊥) where
       -- both options found
-      after-found : J ≡ cond (isIllFormed (suboptions own) || isIllFormed (suboptions peer)) (plain 3)
-          (cond (eqb (roleOf own) (roleOf peer)) (plain 4)
-          (cond (mandatory && eqb (awareOf peer) 0) (plain 5)
+      after-found : J ≡ cond (isIllFormed (suboptions own) || isIllFormed (suboptions peer)) (plain (numbered 3))
+          (cond (eqb (roleOf own) (roleOf peer)) (plain (numbered 4))
+          (cond (mandatory && eqb (awareOf peer) 0) (plain (numbered 5))
           (negotiate (roleOf own) (sides hand own peer (eqb (roleOf own) 1)))))
       unfolding judge firstOf synOption
       after-found =
@@ -205,32 +207,32 @@ module _ (mandatory : Bool) (hand : Option SessionRecord) (ownArea peerArea : Li
         unaware-peer = aware-or-not peer ∙ ap not (sym (ap (λ (x : Summary). x .aware) (et ∙ summary-says peer within-peer)))
 
         -- the tests in the summaries' terms
-        by-summaries : J ≡ cond (s .«ill_formed» || p .«ill_formed») (plain 3)
-            (cond (eqb (s .role) (p .role)) (plain 4)
-            (cond (mandatory && not (p .aware)) (plain 5)
+        by-summaries : J ≡ cond (s .«ill_formed» || p .«ill_formed») (plain (numbered 3))
+            (cond (eqb (s .role) (p .role)) (plain (numbered 4))
+            (cond (mandatory && not (p .aware)) (plain (numbered 5))
             (negotiate (roleOf own) (sides hand own peer (eqb (roleOf own) 1)))))
         by-summaries = after-found
-            ∙ (ap₂ (λ x y. cond (x || y) (plain 3) (cond (eqb (roleOf own) (roleOf peer)) (plain 4) (cond (mandatory && eqb (awareOf peer) 0) (plain 5) (negotiate (roleOf own) (sides hand own peer (eqb (roleOf own) 1)))))) ill-own ill-peer
-            ∙ (ap₂ (λ x y. cond (s .«ill_formed» || p .«ill_formed») (plain 3) (cond (eqb x y) (plain 4) (cond (mandatory && eqb (awareOf peer) 0) (plain 5) (negotiate (roleOf own) (sides hand own peer (eqb (roleOf own) 1)))))) role-own role-peer
-            ∙ ap (λ x. cond (s .«ill_formed» || p .«ill_formed») (plain 3) (cond (eqb (s .role) (p .role)) (plain 4) (cond (mandatory && x) (plain 5) (negotiate (roleOf own) (sides hand own peer (eqb (roleOf own) 1)))))) unaware-peer))
+            ∙ (ap₂ (λ x y. cond (x || y) (plain (numbered 3)) (cond (eqb (roleOf own) (roleOf peer)) (plain (numbered 4)) (cond (mandatory && eqb (awareOf peer) 0) (plain (numbered 5)) (negotiate (roleOf own) (sides hand own peer (eqb (roleOf own) 1)))))) ill-own ill-peer
+            ∙ (ap₂ (λ x y. cond (s .«ill_formed» || p .«ill_formed») (plain (numbered 3)) (cond (eqb x y) (plain (numbered 4)) (cond (mandatory && eqb (awareOf peer) 0) (plain (numbered 5)) (negotiate (roleOf own) (sides hand own peer (eqb (roleOf own) 1)))))) role-own role-peer
+            ∙ ap (λ x. cond (s .«ill_formed» || p .«ill_formed») (plain (numbered 3)) (cond (eqb (s .role) (p .role)) (plain (numbered 4)) (cond (mandatory && x) (plain (numbered 5)) (negotiate (roleOf own) (sides hand own peer (eqb (roleOf own) 1)))))) unaware-peer))
 
-        plainly : (n : ℕ) (v : Verdict) → J ≡ plain n → judgedOf v [] ≡ plain n → (r : Judgement) → r ≡ withoutTranscript v → Judges J r
+        plainly : (n : Cause) (v : Verdict) → J ≡ plain n → judgedOf v [] ≡ plain n → (r : Judgement) → r ≡ withoutTranscript v → Judges J r
         plainly n v e q r w = rw w (judges-plainly J v (q ∙ sym e) (ap transcriptOf e))
 
         pub judge-ill-own : s .«ill_formed» ≡ true → (r : Judgement) → r ≡ withoutTranscript (verdict.Plain reason.IllFormed) → Judges J r
-        judge-ill-own i r w = plainly 3 (verdict.Plain reason.IllFormed) (by-summaries ∙ simp i) refl r w
+        judge-ill-own i r w = plainly (numbered 3) (verdict.Plain reason.IllFormed) (by-summaries ∙ simp i) refl r w
 
         module _ (well : s .«ill_formed» ≡ false) where
           pub judge-ill-peer : p .«ill_formed» ≡ true → (r : Judgement) → r ≡ withoutTranscript (verdict.Plain reason.IllFormed) → Judges J r
-          judge-ill-peer i r w = plainly 3 (verdict.Plain reason.IllFormed) (by-summaries ∙ simp (well, i)) refl r w
+          judge-ill-peer i r w = plainly (numbered 3) (verdict.Plain reason.IllFormed) (by-summaries ∙ simp (well, i)) refl r w
 
           module _ (well′ : p .«ill_formed» ≡ false) where
             pub judge-equal : s .role ≡ p .role → (r : Judgement) → r ≡ withoutTranscript (verdict.Plain reason.EqualRoles) → Judges J r
-            judge-equal i r w = plainly 4 (verdict.Plain reason.EqualRoles) (by-summaries ∙ simp (well, well′, eq-eqb _ _ i)) refl r w
+            judge-equal i r w = plainly (numbered 4) (verdict.Plain reason.EqualRoles) (by-summaries ∙ simp (well, well′, eq-eqb _ _ i)) refl r w
 
             module _ (differ : s .role ≡ p .role → ⊥) (u : Bool) (is : u ≡ mandatory && not (p .aware)) where
               pub judge-unaware : u ≡ true → (r : Judgement) → r ≡ withoutTranscript (verdict.Plain reason.NotAware) → Judges J r
-              judge-unaware i r w = plainly 5 (verdict.Plain reason.NotAware) (by-summaries ∙ simp (well, well′, ne-eqb _ _ differ, ← is, i)) refl r w
+              judge-unaware i r w = plainly (numbered 5) (verdict.Plain reason.NotAware) (by-summaries ∙ simp (well, well′, ne-eqb _ _ differ, ← is, i)) refl r w
 
               pub judge-negotiated : u ≡ false → (r : Judgement) → r ≡ negotiated own peer hand s p → Judges J r
               unfolding negotiated

@@ -22,7 +22,7 @@ use Rattle.suboptions.specs.declared.Entry.{Entry}
 use Rattle.suboptions.specs.declared.Summary.{Summary}
 use Rattle.judge.specs.Answers.{judgedOf, transcriptOf, mostTranscript, padded, withoutTranscript, Judges}
 use Rattle.valid_tep.specs.Best.{noneYet, bestFrom, waysOf, startsOf, bestOf, betterOf}
-use Rattle.judge.specs.Quick.{byteBefore, concluded, negotiated, rankOf, notFound}
+use Rattle.judge.specs.Quick.{byteBefore, concluded, negotiated}
 use Rattle.valid_tep.specs.declared.Best.{Best}
 use Rattle.judge.specs.declared.Reason.the-variants as reason
 use Rattle.judge.specs.declared.Verdict.{Verdict}

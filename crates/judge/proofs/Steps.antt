@@ -1,19 +1,23 @@
 -- The cases of the steps by which the code judges, each from facts about numbers. Assumes nothing.
 use Prim.Native.Nat.{ℕ, _-_, _≤_, _<_}
-use mathlib.Core.Path.{_≡_, refl, sym, _∙_, ap}
+use mathlib.Core.Path.{_≡_, refl, sym, _∙_, ap, ap₂}
 use mathlib.Core.List.{List}
 use mathlib.Core.Bool.{true}
 use native.Mathlib.Omega.{arith}
 use borrow.Author.Tests.{eq-eqb, ne-eqb}
 use lib.Dec.{eqb}
 use lib.ListN.{length, getD, List·getD-eq-default}
-use Rattle.eno.specs.Area.{Finding, refused, unreadable, missing, found, Status, saysFound, saysNone, saysUnreadable, saysRefused, status, finding}
+use mathlib.Core.Logic.{_⊎_, ⊎-elim}
 use Rattle.finder.specs.Answers.{statusOf}
 use Rattle.finder.specs.declared.FindStatus.{FindStatus}
 use Rattle.finder.specs.declared.FindStatus.the-variants as says
-use Rattle.judge.specs.Quick.{byteBefore, rankOf, notFound}
-use Rattle.judge.specs.Answers.{withoutTranscript}
-use Rattle.judge.specs.declared.Reason.the-variants as reason
+use denote.Enum.Declared
+use Rattle.eno.specs.Area.{status, finding}
+use Rattle.eno.specs.declared.Cause.{Cause}
+use Rattle.judge.specs.Answers.{causeOf, withoutTranscript}
+use Rattle.judge.specs.Quick.{byteBefore, missedPeer, unlessRefused, missedAs, notFound}
+use Rattle.judge.specs.declared.Reason.{Reason}
+use Rattle.judge.specs.declared.Verdict.{Verdict}
 use Rattle.judge.specs.declared.Verdict.the-variants as verdict
 
 module _ (s : List ℕ) (at : ℕ) where
@@ -32,44 +36,32 @@ module _ (s : List ℕ) (at : ℕ) where
   unfolding byteBefore
   before-there z = simp (ne-eqb _ _ z)
 
--- a finding's rank, from what the companion says
-abbrev rankAs : Status → ℕ
-rankAs (saysRefused n) = 0
-rankAs saysUnreadable = 1
-rankAs saysNone = 2
-rankAs saysFound = 3
+-- a verdict by what the finder says, variant by variant
+module _ (x y : FindStatus) (e : x ≡ y) where
+  pub missed-peer-by : (v : Verdict) → v ≡ missedPeer (statusOf y) → v ≡ missedPeer (statusOf x)
+  missed-peer-by v h = h ∙ ap (λ z. missedPeer (statusOf z)) (sym e)
 
-rank-by : (f : Finding) → rankAs (status f) ≡ rankOf f
-unfolding status
-rank-by refused = refl
-rank-by (unreadable y) = refl
-rank-by missing = refl
-rank-by (found i n) = refl
+  pub missed-by : (p : FindStatus) (v : Verdict) → v ≡ missedAs (statusOf y) (statusOf p) → v ≡ missedAs (statusOf x) (statusOf p)
+  missed-by p v h = h ∙ ap (λ z. missedAs (statusOf z) (statusOf p)) (sym e)
 
-pub rank-is : (f : Finding) (x y : FindStatus) → x ≡ y → statusOf x ≡ status f → rankAs (statusOf y) ≡ rankOf f
-rank-is f x y q e = ap (λ z. rankAs (statusOf z)) (sym q) ∙ (ap rankAs e ∙ rank-by f)
+-- the cause of a reason, variant by variant
+pub cause-by : (x y : Reason) → x ≡ y → (r : Cause) → r ≡ causeOf y → r ≡ causeOf x
+cause-by x y e r h = h ∙ ap causeOf (sym e)
 
--- why two options were not both found, by their ranks
-module _ (own peer : List ℕ) (s p : ℕ) (es : s ≡ rankOf (finding own true)) (ep : p ≡ rankOf (finding peer true)) where
-  pub missed-own-refused : s ≡ 0 → withoutTranscript verdict.Refused ≡ notFound own peer
-  unfolding notFound
-  missed-own-refused h = simp (← es, eq-eqb _ _ h)
+-- from what the finder says of both areas
+pub missed-both : (own peer : List ℕ) (x y : FindStatus) → statusOf x ≡ status (finding own true) → statusOf y ≡ status (finding peer true)
+    → withoutTranscript (missedAs (statusOf x) (statusOf y)) ≡ notFound own peer
+unfolding notFound
+missed-both own peer x y e h = ap₂ (λ p q. withoutTranscript (missedAs p q)) e h
 
-  module _ (s0 : s ≡ 0 → ⊥) where
-    pub missed-peer-refused : p ≡ 0 → withoutTranscript verdict.Refused ≡ notFound own peer
-    unfolding notFound
-    missed-peer-refused h = simp (← es, ← ep, ne-eqb _ _ s0, eq-eqb _ _ h)
+abbrev tag : FindStatus → ℕ
+tag r = Declared.tagOf (Declared.declared Rattle.finder.proofs.FindStatus.enum) r
 
-    module _ (p0 : p ≡ 0 → ⊥) where
-      pub missed-own-unreadable : s ≡ 1 → withoutTranscript (verdict.Plain reason.Unreadable) ≡ notFound own peer
-      unfolding notFound
-      missed-own-unreadable h = simp (← es, ← ep, ne-eqb _ _ s0, ne-eqb _ _ p0, eq-eqb _ _ h)
+pub refused-first : (x : FindStatus) (v : Verdict) → x ≡ says.Refused → verdict.Refused ≡ unlessRefused (statusOf x) v
+refused-first x v e = ap (λ z. unlessRefused (statusOf z) v) (sym e)
 
-      module _ (s1 : s ≡ 1 → ⊥) where
-        pub missed-peer-unreadable : p ≡ 1 → withoutTranscript (verdict.Plain reason.Unreadable) ≡ notFound own peer
-        unfolding notFound
-        missed-peer-unreadable h = simp (← es, ← ep, ne-eqb _ _ s0, ne-eqb _ _ p0, ne-eqb _ _ s1, eq-eqb _ _ h)
-
-        pub missed-none : (p ≡ 1 → ⊥) → withoutTranscript (verdict.Plain reason.NoOption) ≡ notFound own peer
-        unfolding notFound
-        missed-none h = simp (← es, ← ep, ne-eqb _ _ s0, ne-eqb _ _ p0, ne-eqb _ _ s1, ne-eqb _ _ h)
+pub not-refused : (x : FindStatus) (v : Verdict) → (tag x ≡ 0) ⊎ ((tag x ≡ 1) ⊎ (tag x ≡ 2)) → v ≡ unlessRefused (statusOf x) v
+not-refused says.Found v h = refl
+not-refused says.Nothing v h = refl
+not-refused (says.Unreadable i k) v h = refl
+not-refused says.Refused v h = absurd (⊎-elim (λ e. omega arith) (⊎-elim (λ e. omega arith) (λ e. omega arith)) h)

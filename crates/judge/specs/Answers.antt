@@ -4,6 +4,8 @@ use mathlib.Core.Path.{_≡_, refl, sym, _∙_, ap, ap₂}
 use mathlib.Core.List.{List, [], _∷_, _++_}
 use mathlib.Core.Bool.{Bool, true, false}
 use lib.ListN.{length, take, replicate}
+use Rattle.eno.specs.Cause.{numbered}
+use Rattle.eno.specs.declared.Cause.{Cause}
 use Rattle.eno.specs.Judge.{wayIf, isResumed, Judged, refuse, plain, encrypt}
 use Rattle.judge.specs.declared.Reason.{Reason}
 use Rattle.judge.specs.declared.Reason.the-variants as reason
@@ -12,24 +14,24 @@ use Rattle.judge.specs.declared.Verdict.the-variants as verdict
 use Rattle.judge.specs.declared.Judgement.{Judgement}
 
 -- the reasons for plain TCP
-abbrev pub reasonNumber : Reason → ℕ
-reasonNumber reason.Unreadable = 1
-reasonNumber reason.NoOption = 2
-reasonNumber reason.IllFormed = 3
-reasonNumber reason.EqualRoles = 4
-reasonNumber reason.NotAware = 5
-reasonNumber reason.NoValidTep = 6
-reasonNumber reason.Altered = 7
+abbrev pub causeOf : Reason → Cause
+causeOf (reason.Unreadable place kind) = record { reason = 1; place = place; kind = kind }
+causeOf reason.NoOption = numbered 2
+causeOf reason.IllFormed = numbered 3
+causeOf reason.EqualRoles = numbered 4
+causeOf reason.NotAware = numbered 5
+causeOf reason.NoValidTep = numbered 6
+causeOf reason.Altered = numbered 7
 
 -- refused with 2; plain with the reason's number; or role, TEP byte, way and transcript
 abbrev pub judgedOf : Verdict → List ℕ → Judged
 judgedOf verdict.Refused t = refuse 2
-judgedOf (verdict.Plain r) t = plain (reasonNumber r)
+judgedOf (verdict.Plain r) t = plain (causeOf r)
 judgedOf (verdict.Encrypted role byte is-resumed) t = encrypt role byte (wayIf is-resumed) t
 
 abbrev pub transcriptOf : Judged → List ℕ
 transcriptOf (refuse n) = []
-transcriptOf (plain n) = []
+transcriptOf (plain c) = []
 transcriptOf (encrypt role byte way t) = t
 
 -- the largest transcript: two options of 40 bytes
@@ -50,18 +52,21 @@ pub record Judges (j : Judged) (r : Judgement) : Type 0 where
   pub filled : r .transcript ≡ padded (transcriptOf j)
 
 -- the reason with a number
-abbrev reasonOf : ℕ → Reason
-reasonOf zero = reason.Altered
-reasonOf (suc zero) = reason.Unreadable
-reasonOf (suc (suc zero)) = reason.NoOption
-reasonOf (suc (suc (suc zero))) = reason.IllFormed
-reasonOf (suc (suc (suc (suc zero)))) = reason.EqualRoles
-reasonOf (suc (suc (suc (suc (suc zero))))) = reason.NotAware
-reasonOf (suc (suc (suc (suc (suc (suc zero)))))) = reason.NoValidTep
-reasonOf (suc (suc (suc (suc (suc (suc (suc n))))))) = reason.Altered
+abbrev reasonBy : ℕ → Cause → Reason
+reasonBy zero c = reason.Altered
+reasonBy (suc zero) c = reason.Unreadable (c .place) (c .kind)
+reasonBy (suc (suc zero)) c = reason.NoOption
+reasonBy (suc (suc (suc zero))) c = reason.IllFormed
+reasonBy (suc (suc (suc (suc zero)))) c = reason.EqualRoles
+reasonBy (suc (suc (suc (suc (suc zero))))) c = reason.NotAware
+reasonBy (suc (suc (suc (suc (suc (suc zero)))))) c = reason.NoValidTep
+reasonBy (suc (suc (suc (suc (suc (suc (suc n))))))) c = reason.Altered
 
-reason-back : (r : Reason) → reasonOf (reasonNumber r) ≡ r
-reason-back reason.Unreadable = refl
+abbrev reasonOf : Cause → Reason
+reasonOf c = reasonBy (c .reason) c
+
+reason-back : (r : Reason) → reasonOf (causeOf r) ≡ r
+reason-back (reason.Unreadable place kind) = refl
 reason-back reason.NoOption = refl
 reason-back reason.IllFormed = refl
 reason-back reason.EqualRoles = refl
@@ -70,12 +75,12 @@ reason-back reason.NoValidTep = refl
 reason-back reason.Altered = refl
 
 -- the numbers lose nothing: two reasons with the same number are the same
-pub reason-tells : (a b : Reason) → reasonNumber a ≡ reasonNumber b → a ≡ b
+pub reason-tells : (a b : Reason) → causeOf a ≡ causeOf b → a ≡ b
 reason-tells a b e = sym (reason-back a) ∙ (ap reasonOf e ∙ reason-back b)
 
 abbrev verdictOf : Judged → Verdict
 verdictOf (refuse n) = verdict.Refused
-verdictOf (plain n) = verdict.Plain (reasonOf n)
+verdictOf (plain c) = verdict.Plain (reasonOf c)
 verdictOf (encrypt role byte way t) = verdict.Encrypted role byte (isResumed way)
 
 resumed-back : (b : Bool) → isResumed (wayIf b) ≡ b

@@ -5,7 +5,7 @@ use mathlib.Core.Bool.{Bool, true, false, cond, _||_}
 use mathlib.Core.Option.{Option}
 use lib.Dec.{eqb}
 use lib.ListN.{length, getD}
-use Rattle.eno.specs.Area.{Finding, refused, unreadable, missing, found, finding}
+use Rattle.eno.specs.Area.{Status, saysFound, saysNone, saysUnreadable, saysRefused, status, finding}
 use Rattle.eno.specs.Judge.{ofA, ofB}
 use Rattle.eno.specs.declared.SessionRecord.{SessionRecord}
 use Rattle.suboptions.specs.declared.Summary.{Summary}
@@ -13,6 +13,7 @@ use Rattle.valid_tep.specs.Best.{bestOf}
 use Rattle.valid_tep.specs.declared.Best.{Best}
 use Rattle.judge.specs.Answers.{padded, withoutTranscript}
 use Rattle.judge.specs.declared.Reason.the-variants as reason
+use Rattle.judge.specs.declared.Verdict.{Verdict}
 use Rattle.judge.specs.declared.Verdict.the-variants as verdict
 use Rattle.judge.specs.declared.Judgement.{Judgement}
 
@@ -36,17 +37,27 @@ negotiated own peer hand s p =
     let b = ofB ownIsB own peer in
     concluded a b (s .role) (bestOf a b hand ownIsB (s .teps) (p .teps))
 
--- 0 refused, 1 unreadable, 2 none, 3 found
-abbrev pub rankOf : Finding → ℕ
-rankOf refused = 0
-rankOf (unreadable f) = 1
-rankOf missing = 2
-rankOf (found i n) = 3
+-- why two options were not both found, by what the finder says of this end's area and of the other side's
+abbrev pub unreadableAs : (place kind : ℕ) → Verdict
+unreadableAs place kind = verdict.Plain (reason.Unreadable place kind)
+
+abbrev pub missedPeer : Status → Verdict
+missedPeer saysFound = verdict.Plain reason.NoOption
+missedPeer saysNone = verdict.Plain reason.NoOption
+missedPeer (saysUnreadable f) = unreadableAs (f .place) (f .kind)
+missedPeer (saysRefused n) = verdict.Refused
+
+abbrev pub unlessRefused : Status → Verdict → Verdict
+unlessRefused saysFound v = v
+unlessRefused saysNone v = v
+unlessRefused (saysUnreadable f) v = v
+unlessRefused (saysRefused n) v = verdict.Refused
+
+abbrev pub missedAs : Status → Status → Verdict
+missedAs saysFound p = missedPeer p
+missedAs saysNone p = missedPeer p
+missedAs (saysUnreadable f) p = unlessRefused p (unreadableAs (f .place) (f .kind))
+missedAs (saysRefused n) p = verdict.Refused
 
 unfoldable pub notFound : List ℕ → List ℕ → Judgement
-notFound own peer =
-    let s = rankOf (finding own true) in
-    let p = rankOf (finding peer true) in
-    cond (eqb s 0 || eqb p 0) (withoutTranscript verdict.Refused)
-    (cond (eqb s 1 || eqb p 1) (withoutTranscript (verdict.Plain reason.Unreadable))
-    (withoutTranscript (verdict.Plain reason.NoOption)))
+notFound own peer = withoutTranscript (missedAs (status (finding own true)) (status (finding peer true)))

@@ -1,4 +1,5 @@
 // The judge: what two option areas, this end's own and the other side's, come to.
+use eno::Cause;
 use eno::InHand;
 use finder::FindStatus;
 use suboptions::Summary;
@@ -10,18 +11,51 @@ ghost use lib.ListN.{length};
 ghost use Rattle.eno.specs.Session.{inHand};
 ghost use Rattle.eno.specs.Area.{finding};
 ghost use Rattle.eno.specs.Judge.{ofA, ofB, judge};
-ghost use Rattle.judge.specs.Answers.{withoutTranscript, Judges};
-ghost use Rattle.judge.specs.Quick.{byteBefore, concluded, rankOf, notFound, negotiated};
+ghost use Rattle.eno.specs.Cause.{numbered};
+ghost use Rattle.finder.specs.Answers.{statusOf};
+ghost use Rattle.judge.specs.Answers.{causeOf, withoutTranscript, Judges};
+ghost use Rattle.judge.specs.Quick.{byteBefore, concluded, unreadableAs, missedPeer, unlessRefused, missedAs, notFound, negotiated};
 
 // Why a connection is plain TCP.
 pub enum Reason {
-    Unreadable,
+    // The option that makes the area unreadable: where it begins, and its kind.
+    Unreadable { place: u8, kind: u8 },
     NoOption,
     IllFormed,
     EqualRoles,
     NotAware,
     NoValidTep,
     Altered,
+}
+
+// A reason for plain TCP without a place.
+fn numbered(reason: u8) -> Cause
+    ensures { λ r. ⌜ r ≡ numbered reason ⌝ }
+{
+    Cause {
+        reason,
+        place: 0,
+        kind: 0,
+    }
+}
+
+// Document 01's number of a reason, with place and kind of an unreadable area.
+pub fn cause_of(reason: Reason) -> Cause
+    ensures { λ r. ⌜ r ≡ causeOf reason ⌝ }
+{
+    match reason {
+        Reason::Unreadable { place, kind } => Cause {
+            reason: 1,
+            place,
+            kind,
+        },
+        Reason::NoOption => numbered(2),
+        Reason::IllFormed => numbered(3),
+        Reason::EqualRoles => numbered(4),
+        Reason::NotAware => numbered(5),
+        Reason::NoValidTep => numbered(6),
+        Reason::Altered => numbered(7),
+    }
 }
 
 pub enum Verdict {
@@ -111,38 +145,55 @@ fn negotiate<'a>(own: &'a [u8], peer: &'a [u8], hand: InHand, s: Summary, p: Sum
     conclude(a, b, s.role, best)
 }
 
-// 0 refused, 1 unreadable, 2 none, 3 found.
-fn rank(area: &[u8]) -> u8
-    ensures { λ r. ⌜ r ≡ rankOf (finding (now (area .entry)) true) ⌝ }
+// An unreadable area, by the option that makes it so.
+fn unreadable(place: u8, kind: u8) -> Verdict
+    ensures { λ r. ⌜ r ≡ unreadableAs place kind ⌝ }
 {
-    let status = finder::find_status(area, true);
-    match status {
-        FindStatus::Refused => 0,
-        FindStatus::Unreadable => 1,
-        FindStatus::Nothing => 2,
-        FindStatus::Found => 3,
+    let reason = Reason::Unreadable { place, kind };
+    Verdict::Plain(reason)
+}
+
+// What the finder says of the other side's area, where this end's own is readable.
+fn missed_peer(peer: FindStatus) -> Verdict
+    ensures { λ r. ⌜ r ≡ missedPeer (statusOf peer) ⌝ }
+{
+    match peer {
+        FindStatus::Refused => Verdict::Refused,
+        FindStatus::Unreadable { place, kind } => unreadable(place, kind),
+        FindStatus::Nothing => Verdict::Plain(Reason::NoOption),
+        FindStatus::Found => Verdict::Plain(Reason::NoOption),
     }
 }
 
-// Why the two options were not both found.
+// A verdict on this end's own area, unless the other side's is refused.
+fn unless_refused(peer: FindStatus, verdict: Verdict) -> Verdict
+    ensures { λ r. ⌜ r ≡ unlessRefused (statusOf peer) verdict ⌝ }
+{
+    match peer {
+        FindStatus::Refused => Verdict::Refused,
+        _ => verdict,
+    }
+}
+
+// Why two options were not both found.
+fn missed(own: FindStatus, peer: FindStatus) -> Verdict
+    ensures { λ r. ⌜ r ≡ missedAs (statusOf own) (statusOf peer) ⌝ }
+{
+    match own {
+        FindStatus::Refused => Verdict::Refused,
+        FindStatus::Unreadable { place, kind } => unless_refused(peer, unreadable(place, kind)),
+        FindStatus::Nothing => missed_peer(peer),
+        FindStatus::Found => missed_peer(peer),
+    }
+}
+
 fn not_found<'a>(own: &'a [u8], peer: &'a [u8]) -> Judgement
     ensures { λ r. ⌜ r ≡ notFound (now (own .entry)) (now (peer .entry)) ⌝ }
 {
-    let s = rank(own);
-    let p = rank(peer);
-    if s == 0 {
-        return without_transcript(Verdict::Refused);
-    }
-    if p == 0 {
-        return without_transcript(Verdict::Refused);
-    }
-    if s == 1 {
-        return without_transcript(Verdict::Plain(Reason::Unreadable));
-    }
-    if p == 1 {
-        return without_transcript(Verdict::Plain(Reason::Unreadable));
-    }
-    without_transcript(Verdict::Plain(Reason::NoOption))
+    let s = finder::find_status(own, true);
+    let p = finder::find_status(peer, true);
+    let verdict = missed(s, p);
+    without_transcript(verdict)
 }
 
 fn is_unaware(mandatory: bool, aware: bool) -> bool

@@ -5,6 +5,7 @@ use mathlib.Core.Bool.{Bool, false}
 use lib.Dec.{ltb}
 use lib.ListN.{length}
 use Rattle.wire.specs.Bytes.{pasted}
+use Rattle.eno.specs.Cause.{numbered}
 use Rattle.eno.specs.Option.{isListed, offered, optionWith}
 use Rattle.eno.specs.declared.SessionRecord.{SessionRecord}
 use Rattle.eno.specs.declared.InHand.{InHand}
@@ -25,7 +26,7 @@ doorOffered o mandatory hand =
     record {
       phase = 1;
       mandatory = mandatory;
-      reason = 0;
+      cause = numbered 0;
       role = 0;
       tep = 0;
       resumed = false;

@@ -3,6 +3,7 @@ use door::Door;
 use door::Refusal;
 use door::Reply;
 use door::View;
+use eno::Cause;
 use eno::InHand;
 use opening::Opening;
 use option_writer::OptionWritten;
@@ -50,10 +51,15 @@ fn offered_door(own: &[u8], mandatory: bool, hand: InHand) -> Door
 {
     let kept = door_data::kept_option(own);
     let n = own.len() as u8;
+    let cause = Cause {
+        reason: 0,
+        place: 0,
+        kind: 0,
+    };
     Door {
         phase: 1,
         mandatory,
-        reason: 0,
+        cause,
         role: 0,
         tep: 0,
         resumed: false,

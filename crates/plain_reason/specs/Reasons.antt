@@ -1,17 +1,18 @@
--- A reason for plain TCP as a number.
-use Prim.Native.Nat.{ℕ, zero, suc}
+-- Why a segment ends in plain TCP, as the code says it.
+use Prim.Native.Nat.{ℕ}
 use mathlib.Core.List.{List, [], _∷_}
 use mathlib.Core.Bool.{Bool}
 use mathlib.Core.Option.{Option, none, some}
 use Rattle.eno.specs.Area.{finding}
+use Rattle.eno.specs.Cause.{numbered, blame, firstCause}
 use Rattle.eno.specs.Judge.{isUnreadable, isMissing}
-use Rattle.door.specs.Outcome.{refusal}
+use Rattle.eno.specs.declared.Cause.{Cause}
 
--- a reason for plain TCP; 0 is none
-abbrev pub reasonAs : ℕ → Option ℕ
-reasonAs zero = none
-reasonAs (suc n) = some (suc n)
+-- why a segment ends in plain TCP; reason 0 where it does not
+abbrev pub asCause : Option Cause → Cause
+asCause none = numbered 0
+asCause (some c) = c
 
 -- 1 unreadable area, 2 no ENO option
-unfoldable pub absenceOf : List ℕ → Bool → Option ℕ
-absenceOf area syn = refusal ((isUnreadable (finding area syn), 1) ∷ (isMissing (finding area syn), 2) ∷ [])
+unfoldable pub absenceOf : List ℕ → Bool → Option Cause
+absenceOf area syn = firstCause ((isUnreadable (finding area syn), blame (finding area syn)) ∷ (isMissing (finding area syn), numbered 2) ∷ [])

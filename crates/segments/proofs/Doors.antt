@@ -5,6 +5,8 @@ use mathlib.Core.List.{List}
 use mathlib.Core.Bool.{Bool, true, false}
 use lib.ListN.{length}
 use Rattle.eno.specs.declared.InHand.{InHand}
+use Rattle.eno.specs.declared.Cause.{Cause}
+use Rattle.eno.specs.Cause.{numbered}
 use Rattle.eno.specs.Judge.{isResumed, wayIf}
 use Rattle.door.specs.Door.{kept}
 use Rattle.door.specs.Receive.{openHand, openDoor, judgedDoor}
@@ -14,12 +16,12 @@ use Rattle.door_data.specs.Laws.{kept-whole}
 use Rattle.segments.specs.Steps.{openIf}
 
 -- a door's fields
-abbrev doorOf : (phase : ℕ) (mandatory : Bool) (reason role tep : ℕ) (resumed : Bool) (own-length peer-length : ℕ) (own peer : List ℕ) → InHand → Door
-doorOf phase mandatory reason role tep resumed own-length peer-length own peer hand =
+abbrev doorOf : (phase : ℕ) (mandatory : Bool) (cause : Cause) (role tep : ℕ) (resumed : Bool) (own-length peer-length : ℕ) (own peer : List ℕ) → InHand → Door
+doorOf phase mandatory cause role tep resumed own-length peer-length own peer hand =
     record {
       phase = phase;
       mandatory = mandatory;
-      reason = reason;
+      cause = cause;
       role = role;
       tep = tep;
       resumed = resumed;
@@ -32,9 +34,9 @@ doorOf phase mandatory reason role tep resumed own-length peer-length own peer h
 
 module _ (d : Door) where
   pub open-with : (h : InHand) → h ≡ openHand (d .resumed) (d .hand)
-      → doorOf 4 (d .mandatory) 0 (d .role) (d .tep) (d .resumed) (d .«own_length») (d .«peer_length») (d .own) (d .peer) h ≡ openDoor d
+      → doorOf 4 (d .mandatory) (numbered 0) (d .role) (d .tep) (d .resumed) (d .«own_length») (d .«peer_length») (d .own) (d .peer) h ≡ openDoor d
   unfolding openDoor
-  open-with h e = ap (λ x. doorOf 4 (d .mandatory) 0 (d .role) (d .tep) (d .resumed) (d .«own_length») (d .«peer_length») (d .own) (d .peer) x) e
+  open-with h e = ap (λ x. doorOf 4 (d .mandatory) (numbered 0) (d .role) (d .tep) (d .resumed) (d .«own_length») (d .«peer_length») (d .own) (d .peer) x) e
 
   pub opens : (b : Bool) → b ≡ true → (r : Door) → r ≡ openDoor d → r ≡ openIf b d
   unfolding openIf
@@ -49,8 +51,8 @@ resumed-if true = refl
 resumed-if false = refl
 
 pub judged-with : (d : Door) (o : List ℕ) (role byte : ℕ) (again : Bool) (p : List ℕ) → length o ≤ 40 → p ≡ keptOption o
-    → doorOf 2 (d .mandatory) 0 role byte again (d .«own_length») (length o) (d .own) p (d .hand) ≡ judgedDoor d o role byte (wayIf again)
+    → doorOf 2 (d .mandatory) (numbered 0) role byte again (d .«own_length») (length o) (d .own) p (d .hand) ≡ judgedDoor d o role byte (wayIf again)
 unfolding judgedDoor
 judged-with d o role byte again p h e =
-    ap (λ x. doorOf 2 (d .mandatory) 0 role byte again (d .«own_length») (length o) (d .own) x (d .hand)) (e ∙ kept-whole o h)
-    ∙ ap (λ b. doorOf 2 (d .mandatory) 0 role byte b (d .«own_length») (length o) (d .own) (kept o) (d .hand)) (resumed-if again)
+    ap (λ x. doorOf 2 (d .mandatory) (numbered 0) role byte again (d .«own_length») (length o) (d .own) x (d .hand)) (e ∙ kept-whole o h)
+    ∙ ap (λ b. doorOf 2 (d .mandatory) (numbered 0) role byte b (d .«own_length») (length o) (d .own) (kept o) (d .hand)) (resumed-if again)

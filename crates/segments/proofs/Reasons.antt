@@ -7,7 +7,8 @@ use lib.ListN.{take, drop}
 use Rattle.eno.specs.Area.{finding, partOf, synOption}
 use Rattle.eno.specs.Session.{inHand}
 use Rattle.eno.specs.Judge.{Judged, judge, wayIf}
-use Rattle.judge.specs.Answers.{reasonNumber, judgedOf, Judges}
+use Rattle.eno.specs.declared.Cause.{Cause}
+use Rattle.judge.specs.Answers.{causeOf, judgedOf, Judges}
 use Rattle.judge.specs.Answers as judge-answers
 use Rattle.judge.specs.declared.Reason.{Reason}
 use Rattle.judge.specs.declared.Verdict.{Verdict}
@@ -18,8 +19,8 @@ use Rattle.door.specs.Answer.{plainDoor}
 use Rattle.door.specs.Receive.{judging, comparing, presence, openDoor, judgedDoor, thenIn, afterJudging, secondReason, presenceReason, plainOr, received}
 use Rattle.door.specs.declared.Door.{Door}
 use Rattle.door_data.specs.Laws.{own-stored}
-use Rattle.plain_reason.specs.Reasons.{reasonAs, absenceOf}
-use Rattle.plain_reason.specs.Laws.{is-reason}
+use Rattle.plain_reason.specs.Reasons.{asCause, absenceOf}
+use Rattle.plain_reason.specs.Laws.{absence-has, second-has, no-cause, is-cause}
 use Rattle.segments.specs.Steps.{openIf}
 
 -- what opening comes to
@@ -55,7 +56,7 @@ module _ (d : Door) (opens : Bool) (area : List ℕ) (n : ℕ) (is : n ≡ min (
   pub judged-refused : j .verdict ≡ verdict.Refused → d ≡ received d (judging (cond opens opened crossed)) area
   judged-refused e = judged-by verdict.Refused e
 
-  pub judged-plain : (why : Reason) → j .verdict ≡ verdict.Plain why → (k : ℕ) → k ≡ reasonNumber why → (r : Door) → r ≡ plainDoor k → r ≡ received d (judging (cond opens opened crossed)) area
+  pub judged-plain : (why : Reason) → j .verdict ≡ verdict.Plain why → (k : Cause) → k ≡ causeOf why → (r : Door) → r ≡ plainDoor k → r ≡ received d (judging (cond opens opened crossed)) area
   judged-plain why e k q r p = p ∙ (ap plainDoor q ∙ judged-by (verdict.Plain why) e)
 
   pub judged-encrypted : (role byte : ℕ) (again : Bool) → j .verdict ≡ verdict.Encrypted role byte again → (o : List ℕ) → o ≡ partOf area (finding area true)
@@ -68,22 +69,22 @@ module _ (d : Door) (opens : Bool) (area : List ℕ) (n : ℕ) (is : n ≡ min (
       ∙ judged-by (verdict.Encrypted role byte again) e))
 
 -- a second SYN, compared
-module _ (d : Door) (opens : Bool) (area : List ℕ) (n : ℕ) (is : reasonAs n ≡ secondReason d area) where
-  pub compared-same : n ≡ 0 → (r : Door) → r ≡ openIf opens d → r ≡ received d (comparing (cond opens opened answering)) area
+module _ (d : Door) (opens : Bool) (area : List ℕ) (c : Cause) (is : c ≡ asCause (secondReason d area)) where
+  pub compared-same : c .reason ≡ 0 → (r : Door) → r ≡ openIf opens d → r ≡ received d (comparing (cond opens opened answering)) area
   unfolding received
   compared-same z r e =
-      e ∙ (then-answered opens d ∙ ap (λ x. plainOr x (thenIn (cond opens opened answering) d)) (ap reasonAs (sym z) ∙ is))
+      e ∙ (then-answered opens d ∙ ap (λ x. plainOr x (thenIn (cond opens opened answering) d)) (no-cause (secondReason d area) c is (second-has d area) z))
 
-  pub compared-plain : (n ≡ 0 → ⊥) → (r : Door) → r ≡ plainDoor n → r ≡ received d (comparing (cond opens opened answering)) area
+  pub compared-plain : (c .reason ≡ 0 → ⊥) → (r : Door) → r ≡ plainDoor c → r ≡ received d (comparing (cond opens opened answering)) area
   unfolding received
-  compared-plain z r e = e ∙ ap (λ x. plainOr x (thenIn (cond opens opened answering) d)) (sym (is-reason n z) ∙ is)
+  compared-plain z r e = e ∙ ap (λ x. plainOr x (thenIn (cond opens opened answering) d)) (is-cause (secondReason d area) c is z)
 
 -- a segment without SYN
-module _ (d : Door) (area : List ℕ) (n : ℕ) (is : reasonAs n ≡ absenceOf area false) where
-  pub presence-found : n ≡ 0 → (r : Door) → r ≡ openDoor d → r ≡ received d presence area
+module _ (d : Door) (area : List ℕ) (c : Cause) (is : c ≡ asCause (absenceOf area false)) where
+  pub presence-found : c .reason ≡ 0 → (r : Door) → r ≡ openDoor d → r ≡ received d presence area
   unfolding received presenceReason absenceOf
-  presence-found z r e = e ∙ ap (λ x. plainOr x (openDoor d)) (ap reasonAs (sym z) ∙ is)
+  presence-found z r e = e ∙ ap (λ x. plainOr x (openDoor d)) (no-cause (absenceOf area false) c is (absence-has area false) z)
 
-  pub presence-plain : (n ≡ 0 → ⊥) → (r : Door) → r ≡ plainDoor n → r ≡ received d presence area
+  pub presence-plain : (c .reason ≡ 0 → ⊥) → (r : Door) → r ≡ plainDoor c → r ≡ received d presence area
   unfolding received presenceReason absenceOf
-  presence-plain z r e = e ∙ ap (λ x. plainOr x (openDoor d)) (sym (is-reason n z) ∙ is)
+  presence-plain z r e = e ∙ ap (λ x. plainOr x (openDoor d)) (is-cause (absenceOf area false) c is z)

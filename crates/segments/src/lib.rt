@@ -2,8 +2,8 @@
 use door::Door;
 use door::Refusal;
 use door::Reply;
+use eno::Cause;
 use eno::InHand;
-use judge::Reason;
 use judge::Verdict;
 use turns::Turn;
 ghost use mathlib.Core.Path.{_≡_};
@@ -12,7 +12,6 @@ ghost use mathlib.Core.Bool.{cond};
 ghost use Prim.Native.Nat.{_≤_};
 ghost use lib.ListN.{length};
 ghost use Rattle.eno.specs.Judge.{wayIf};
-ghost use Rattle.judge.specs.Answers.{reasonNumber};
 ghost use Rattle.door.specs.Door.{crossed, answering, opened};
 ghost use Rattle.door.specs.Outcome.{keep};
 ghost use Rattle.door.specs.Receive.{openHand, openDoor, judgedDoor, judging, comparing, presence, received, replies, receive};
@@ -43,10 +42,15 @@ fn open_door(door: Door) -> Door
     let peer = door.peer;
     let in_hand = door.hand;
     let hand = open_hand(door.resumed, in_hand);
+    let cause = Cause {
+        reason: 0,
+        place: 0,
+        kind: 0,
+    };
     Door {
         phase: 4,
         mandatory: door.mandatory,
-        reason: 0,
+        cause,
         role: door.role,
         tep: door.tep,
         resumed: door.resumed,
@@ -76,10 +80,15 @@ fn judged_door(door: Door, option: &[u8], role: u8, tep: u8, resumed: bool) -> D
     let kept_hand = door.hand;
     let peer = door_data::kept_option(option);
     let peer_length = option.len() as u8;
+    let cause = Cause {
+        reason: 0,
+        place: 0,
+        kind: 0,
+    };
     Door {
         phase: 2,
         mandatory: door.mandatory,
-        reason: 0,
+        cause,
         role,
         tep,
         resumed,
@@ -88,20 +97,6 @@ fn judged_door(door: Door, option: &[u8], role: u8, tep: u8, resumed: bool) -> D
         own,
         peer,
         hand: kept_hand,
-    }
-}
-
-fn reason_number(reason: Reason) -> u8
-    ensures { λ r. ⌜ r ≡ reasonNumber reason ⌝ }
-{
-    match reason {
-        Reason::Unreadable => 1,
-        Reason::NoOption => 2,
-        Reason::IllFormed => 3,
-        Reason::EqualRoles => 4,
-        Reason::NotAware => 5,
-        Reason::NoValidTep => 6,
-        Reason::Altered => 7,
     }
 }
 
@@ -117,8 +112,8 @@ fn after_judging(door: Door, opens: bool, area: &[u8]) -> Door
     match verdict {
         Verdict::Refused => door,
         Verdict::Plain(reason) => {
-            let number = reason_number(reason);
-            door::plain_door(number)
+            let cause = judge::cause_of(reason);
+            door::plain_door(cause)
         }
         Verdict::Encrypted { role, tep, resumed } => {
             let option = finder::find_option(area, true);
@@ -131,22 +126,22 @@ fn after_judging(door: Door, opens: bool, area: &[u8]) -> Door
 fn after_comparing(door: Door, opens: bool, area: &[u8]) -> Door
     ensures { λ r. ⌜ r ≡ received door (comparing (cond opens opened answering)) (now (area .entry)) ⌝ }
 {
-    let reason = plain_reason::second_reason(door, area);
-    if reason == 0 {
+    let cause = plain_reason::second_reason(door, area);
+    if cause.reason == 0 {
         return open_if(opens, door);
     }
-    door::plain_door(reason)
+    door::plain_door(cause)
 }
 
 // A segment without SYN shows that the option arrived, by having one.
 fn after_presence(door: Door, area: &[u8]) -> Door
     ensures { λ r. ⌜ r ≡ received door presence (now (area .entry)) ⌝ }
 {
-    let reason = plain_reason::absence(area, false);
-    if reason == 0 {
+    let cause = plain_reason::absence(area, false);
+    if cause.reason == 0 {
         return open_door(door);
     }
-    door::plain_door(reason)
+    door::plain_door(cause)
 }
 
 fn told(door: Door) -> Received

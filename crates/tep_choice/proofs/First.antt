@@ -3,6 +3,7 @@ use Prim.Native.Nat.{ℕ}
 use mathlib.Core.Path.{_≡_, sym, _∙_, ap}
 use mathlib.Core.List.{List}
 use Rattle.eno.specs.declared.SessionRecord.{SessionRecord}
+use Rattle.eno.specs.declared.Cause.{Cause}
 use Rattle.suboptions.specs.declared.Entry.{Entry}
 use Rattle.door.specs.Answer.{Answering, with}
 use Rattle.tep_choice.specs.Choosing.{chosen, decisionOf, lastResumed, lastFresh, firstOr, chosenBy}
@@ -14,6 +15,6 @@ module _ (o : List ℕ) (es : List Entry) (list : List ℕ) (held : List Session
   unfolding chosenBy firstOr
   chosen-resumed t j p = ap (λ a. firstOr a (lastFresh es list held)) (sym (ap decisionOf p) ∙ is)
 
-  pub chosen-fresh : (n : ℕ) → x ≡ decision.Plain n → (a : Answering) → a ≡ lastFresh es list held → a ≡ chosenBy o es list held
+  pub chosen-fresh : (n : Cause) → x ≡ decision.Plain n → (a : Answering) → a ≡ lastFresh es list held → a ≡ chosenBy o es list held
   unfolding chosenBy firstOr
   chosen-fresh n p a f = f ∙ ap (λ b. firstOr b (lastFresh es list held)) (sym (ap decisionOf p) ∙ is)

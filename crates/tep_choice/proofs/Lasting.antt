@@ -8,6 +8,7 @@ use native.Mathlib.Omega.{arith}
 use borrow.Author.Tests.{lt-ltb, le-ltb}
 use lib.Dec.{ltb}
 use lib.ListN.{length, getD, take}
+use Rattle.eno.specs.Cause.{numbered}
 use Rattle.eno.specs.declared.SessionRecord.{SessionRecord}
 use Rattle.suboptions.specs.declared.Entry.{Entry}
 use Rattle.door.specs.Answer.{lastThat, plainFor, with}
@@ -15,7 +16,7 @@ use Rattle.tep_choice.specs.Choosing.{chosen, entryOf, candidateBy, fitt
 use Rattle.tep_choice.specs.Laws.Listing.{last-none, last-here, last-later}
 
 module _ (es : List Entry) (list : List ℕ) (i : ℕ) (passed : lastThat (isCandidateBy es) list ≡ lastThat (isCandidateBy es) (take i list)) where
-  pub fresh-none : i ≡ 0 → (held : List SessionRecord) → plainFor 6 ≡ lastFresh es list held
+  pub fresh-none : i ≡ 0 → (held : List SessionRecord) → plainFor (numbered 6) ≡ lastFresh es list held
   unfolding lastFresh freshBy
   fresh-none z held = sym (rw (last-none (isCandidateBy es) list i passed z))
 
@@ -33,7 +34,7 @@ module _ (es : List Entry) (list : List ℕ) (i : ℕ) (passed : lastThat (isCan
 
 module _ (o : List ℕ) (es : List Entry) (list : List ℕ) (held : List SessionRecord) (i : ℕ)
     (passed : lastThat (resumableBy o es held) list ≡ lastThat (resumableBy o es held) (take i list)) where
-  pub resumed-none : i ≡ 0 → plainFor 6 ≡ lastResumed o es list held
+  pub resumed-none : i ≡ 0 → plainFor (numbered 6) ≡ lastResumed o es list held
   unfolding lastResumed resumedBy
   resumed-none z = sym (rw (last-none (resumableBy o es held) list i passed z))
 

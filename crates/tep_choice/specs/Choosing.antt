@@ -6,6 +6,7 @@ use mathlib.Core.Option.{Option, none, some}
 use lib.Dec.{ltb, eqb}
 use lib.ListN.{length, getD}
 use Rattle.wire.specs.Bytes.{part, sameBytes}
+use Rattle.eno.specs.Cause.{numbered}
 use Rattle.eno.specs.Tep.{isKnown}
 use Rattle.eno.specs.Session.{expectedHalf}
 use Rattle.eno.specs.Judge.{isFresh, isBad}
@@ -50,7 +51,7 @@ isCandidateBy es t = candidateBy (entryOf es t)
 
 -- the answer for the last TEP that can be resumed, if there is one
 unfoldable pub resumedBy : List ℕ → List Entry → List SessionRecord → Option ℕ → Answering
-resumedBy o es held none = plainFor 6
+resumedBy o es held none = plainFor (numbered 6)
 resumedBy o es held (some t) = with (chosen t (fittingBy o t (entryOf es t) held))
 
 unfoldable pub lastResumed : List ℕ → List Entry → List ℕ → List SessionRecord → Answering
@@ -58,7 +59,7 @@ lastResumed o es list held = resumedBy o es held (lastThat (resumableBy o es hel
 
 -- and for the last candidate, fresh
 unfoldable pub freshBy : List SessionRecord → Option ℕ → Answering
-freshBy held none = plainFor 6
+freshBy held none = plainFor (numbered 6)
 freshBy held (some t) = with (chosen t (length held))
 
 unfoldable pub lastFresh : List Entry → List ℕ → List SessionRecord → Answering

@@ -1,5 +1,6 @@
 // The TEP that an answer chooses of a list in rising priority, and the record that is resumed with it. Total for every view and every argument.
 use door::View;
+use eno::Cause;
 use eno::SessionRecord;
 use suboptions::Entry;
 ghost use mathlib.Core.Path.{_≡_};
@@ -9,7 +10,7 @@ ghost use Rattle.tep_choice.specs.Choosing.{decisionOf, entryOf, candida
 
 // What an answer comes to: plain with its reason, or the TEP that is answered and which record is resumed.
 pub enum Decision {
-    Plain(u8),
+    Plain(Cause),
     With { tep: u8, at: usize },
 }
 
@@ -102,7 +103,12 @@ fn last_resumed(view: View, option: &[u8], entries: [Entry; 4], teps: &[u8]) -> 
             return Decision::With { tep, at };
         }
     }
-    Decision::Plain(6)
+    let cause = Cause {
+        reason: 6,
+        place: 0,
+        kind: 0,
+    };
+    Decision::Plain(cause)
 }
 
 // The last listed TEP that A sent once and not bad, answered fresh.
@@ -119,7 +125,12 @@ fn last_fresh(view: View, entries: [Entry; 4], teps: &[u8]) -> Decision
             return Decision::With { tep: t, at: n };
         }
     }
-    Decision::Plain(6)
+    let cause = Cause {
+        reason: 6,
+        place: 0,
+        kind: 0,
+    };
+    Decision::Plain(cause)
 }
 
 // The TEP of an answer to an option, whose entries are given: the last listed that can be resumed, else the last that A sent once and not bad.

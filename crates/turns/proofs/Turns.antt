@@ -6,6 +6,7 @@ use Rattle.door.specs.Door.{offering, crossed, answering, opened, phaseOf}
 use Rattle.door.specs.Receive.{turn, judging, comparing, presence, outOfTurn, nowSays}
 use Rattle.door.specs.Receive as receive
 use Rattle.door.specs.Answers.{phaseAs}
+use Rattle.eno.specs.declared.Cause.{Cause}
 use Rattle.door.specs.declared.Phase.{Phase}
 
 -- in Offered
@@ -56,5 +57,5 @@ module _ (p q : Phase) (syn ack : Bool) (e : p ≡ q) where
   turn-at t h = h ∙ ap (λ x. turn (phaseAs x) syn ack) (sym e)
 
 -- the reply in a phase
-pub now-says : (n reason : ℕ) (p q : Phase) → p ≡ q → phaseAs p ≡ phaseOf n → nowSays (phaseAs q) reason ≡ nowSays (phaseOf n) reason
+pub now-says : (n : ℕ) (reason : Cause) (p q : Phase) → p ≡ q → phaseAs p ≡ phaseOf n → nowSays (phaseAs q) reason ≡ nowSays (phaseOf n) reason
 now-says n reason p q e h = ap (λ x. nowSays x reason) (ap phaseAs (sym e) ∙ h)

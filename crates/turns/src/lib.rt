@@ -71,9 +71,10 @@ pub fn turn_of(phase: Phase, syn: bool, ack: bool) -> Turn
 pub fn reply_now(door: Door) -> Reply
     ensures { λ r. ⌜ replyOf r [] ≡ replies door ⌝ }
 {
+    let cause = door.cause;
     let phase = door_data::phase_of(door.phase);
     match phase {
-        Phase::Plain => Reply::Plain(door.reason),
+        Phase::Plain => Reply::Plain(cause),
         Phase::Idle => Reply::Now(Phase::Idle),
         Phase::Offered => Reply::Now(Phase::Offered),
         Phase::Crossed => Reply::Now(Phase::Crossed),

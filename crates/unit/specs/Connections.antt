@@ -5,6 +5,7 @@ use mathlib.Core.Option.{Option, some}
 use mathlib.Core.List.{List}
 use Prim.Native.Nat.{ℕ}
 use lib.ListN.{length, take}
+use Rattle.eno.specs.declared.Cause.{Cause}
 use Rattle.eno.specs.Area.{synOption}
 use Rattle.eno.specs.Session.{inHand}
 use Rattle.eno.specs.Judge as judged
@@ -66,7 +67,7 @@ pub data JudgedBy (d : ℕ) (cs : List Call) (t : Terms) : Type 0 where
       → Since Decided d cs xs (answer (t .area) aware (t .mandatory) list nonce lent) → JudgedBy d cs t
 
 -- why door d is in Plain after the calls cs
-pub data PlainFor (d : ℕ) (cs : List Call) (n : ℕ) : Type 0 where
+pub data PlainFor (d : ℕ) (cs : List Call) (n : Cause) : Type 0 where
   -- the judge's reason
   by-judge : (t : Terms) → JudgedBy d cs t → verdict t ≡ judged.plain n → PlainFor d cs n
   -- an answer's own

@@ -16,3 +16,4 @@ pub mod Openings
 pub mod Connections
 pub mod Stories
 pub mod Named
+pub mod Causes

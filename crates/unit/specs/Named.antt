@@ -5,6 +5,7 @@ use mathlib.Core.Option.{Option, some}
 use mathlib.Core.List.{List}
 use Prim.Native.Nat.{ℕ, _<_}
 use lib.ListN.{length, replicate}
+use Rattle.eno.specs.declared.Cause.{Cause}
 use Rattle.wire.specs.Bytes.{pasted}
 use Rattle.eno.specs.Session.{inHand}
 use Rattle.eno.specs.Judge.{Way, fresh, resumed, wayIf, isResumed, encrypt}
@@ -100,17 +101,17 @@ module _ (d : ℕ) (h : d < doorsN) (cs : List Call) (lent : List ℕ) where
   result-is-judged role byte way n secret e =
       open-named role byte way n secret (result-names at-end lent role byte way n secret (reply-is (encrypted role byte way n secret) e)) (door-story d h cs)
 
-  plain-named : (n : ℕ) → (isPlain (phaseOf (at-end .phase)) ≡ true) × (at-end .reason ≡ n) → Story d cs at-end → PlainFor d cs n
+  plain-named : (n : Cause) → (isPlain (phaseOf (at-end .phase)) ≡ true) × (at-end .cause ≡ n) → Story d cs at-end → PlainFor d cs n
   unfolding plainDoor
   plain-named n x (resting p) = absurd (true≢false (sym (x .0) ∙ ap isPlain p))
   plain-named n x (sent xs b aware mandatory list resume nonce s option hand w u y l f) =
       absurd (true≢false (sym (x .0) ∙ (ap (λ (z : Door). isPlain (phaseOf (z .phase))) y ∙ ap isPlain (offered-phase option mandatory hand))))
   plain-named n x (waiting t y p i) = absurd (true≢false (sym (x .0) ∙ waiting-not (phaseOf (at-end .phase)) p .1))
   plain-named n x (open-as t y p i) = absurd (true≢false (sym (x .0) ∙ ap isPlain p))
-  plain-named n x (plain-as m y p) = subst (PlainFor d cs) (sym (ap (λ (z : Door). z .reason) p) ∙ x .1) y
+  plain-named n x (plain-as m y p) = subst (PlainFor d cs) (sym (ap (λ (z : Door). z .cause) p) ∙ x .1) y
 
   -- and a reason is that of the judge, of an answer, of a second SYN or of a non-SYN; nothing is written
-  pub reason-is-judged : (n : ℕ) → toldAfter d cs (result lent) .reply ≡ plain n → PlainFor d cs n × (toldAfter d cs (result lent) .buffer ≡ lent)
+  pub reason-is-judged : (n : Cause) → toldAfter d cs (result lent) .reply ≡ plain n → PlainFor d cs n × (toldAfter d cs (result lent) .buffer ≡ lent)
   reason-is-judged n e =
       let x = result-plain at-end lent n (reply-is (plain n) e) in
       (plain-named n (x .0, x .1) (door-story d h cs), buffer-as lent (x .2))

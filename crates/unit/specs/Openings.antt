@@ -8,6 +8,7 @@ use native.Mathlib.Omega.{arith}
 use borrow.Author.Tests.{eq-eqb}
 use lib.Dec.{eqb}
 use lib.ListN.{replicate}
+use Rattle.eno.specs.declared.Cause.{Cause}
 use Rattle.wire.specs.Bytes.{sameBytes}
 use Rattle.wire.specs.ByteLaws.{same-yes}
 use Rattle.eno.specs.Area.{synOption}
@@ -70,7 +71,7 @@ data Move (d : Door) (q : Ask) (e : Door) : Type 0 where
 not-backed : (e : Door) → e .resumed ≡ false → Backed e
 not-backed e f t = absurd (true≢false (sym t ∙ f))
 
-plain-move : (d : Door) (q : Ask) (n : ℕ) → Move d q (plainDoor n)
+plain-move : (d : Door) (q : Ask) (n : Cause) → Move d q (plainDoor n)
 unfolding plainDoor phaseOf
 plain-move d q n = shut refl (not-backed (plainDoor n) refl)
 
@@ -118,7 +119,7 @@ module _ (d : Door) (b : Backed d) (syn ack : Bool) (area : List ℕ) where
   open-move : (e : Door) → isOpenNow d ≡ false → Backed e → Move d this (openDoor e)
   open-move e f x = opening-by syn ack area refl f (open-backed e x) (open-dropped e)
 
-  plain-or-move : (m : Option ℕ) (e : Door) → Move d this e → Move d this (plainOr m e)
+  plain-or-move : (m : Option Cause) (e : Door) → Move d this e → Move d this (plainOr m e)
   plain-or-move none e x = x
   plain-or-move (some n) e x = plain-move d this n
 

@@ -7,6 +7,7 @@ use Prim.Native.Nat.{ℕ}
 use native.Mathlib.Omega.{arith}
 use lib.Dec.{ltb}
 use lib.ListN.{length, replicate}
+use Rattle.eno.specs.declared.Cause.{Cause}
 use Rattle.wire.specs.Bytes.{pasted}
 use Rattle.eno.specs.Tep.{isKnown}
 use Rattle.eno.specs.Session.{inHand}
@@ -49,7 +50,7 @@ fresh-way : FreshWay (some fresh)
 unfolding FreshWay
 fresh-way = refl
 
-not-plain : (n : ℕ) → NotResumed (judged.plain n)
+not-plain : (n : Cause) → NotResumed (judged.plain n)
 unfolding NotResumed
 not-plain n = tt
 
@@ -112,7 +113,7 @@ first-not (x ∷ l) last z p = either-way NotResumed (x .0) (x .1) (firstOf l la
 
 judge-fresh : (mandatory : Bool) (own area : List ℕ) → NotResumed (judge mandatory none own area)
 unfolding judge
-judge-fresh mandatory own area = first-not _ _ (not-refused 2, (not-plain 1, (not-plain 2, (not-plain 3, (not-plain 4, (not-plain 5, tt)))))) (negotiate-fresh _ _ _ _)
+judge-fresh mandatory own area = first-not _ _ (not-refused 2, (not-plain _, (not-plain _, (not-plain _, (not-plain _, (not-plain _, (not-plain _, tt))))))) (negotiate-fresh _ _ _ _)
 
 not-resumed : (j : Judged) (role byte : ℕ) (way : Way) (t : List ℕ) → NotResumed j → j ≡ encrypt role byte way t → isResumed way ≡ false
 unfolding NotResumed
@@ -138,7 +139,7 @@ module _ (e : Door) (s : List ℕ) where
   abbrev named-as : Bool → Outcome
   named-as b =
       record {
-        reply = cond b (encrypted (e .role) (e .tep) (wayIf (e .resumed)) (length (transcriptOf e)) (secretOf e)) (plain (e .reason));
+        reply = cond b (encrypted (e .role) (e .tep) (wayIf (e .resumed)) (length (transcriptOf e)) (secretOf e)) (plain (e .cause));
         buffer = cond b (pasted s 0 (transcriptOf e)) s;
         door = e;
         effect = keep;
@@ -159,12 +160,12 @@ module _ (e : Door) (s : List ℕ) where
       go false false f x y z p = let w : _≡_ {A = ℕ} 0 1 = cc in absurd (omega arith)
 
   -- one that gives a reason
-  pub result-plain : (n : ℕ) → r.result e s .reply ≡ plain n → (isPlain (phaseOf (e .phase)) ≡ true) × (e .reason ≡ n) × (r.result e s .buffer ≡ s)
+  pub result-plain : (n : Cause) → r.result e s .reply ≡ plain n → (isPlain (phaseOf (e .phase)) ≡ true) × (e .cause ≡ n) × (r.result e s .buffer ≡ s)
   unfolding r.result refusal unless
   result-plain n q = go (isOpenNow e) (isPlain (phaseOf (e .phase))) (ltb (length s) (length (transcriptOf e))) refl refl q
     where
       go : (b c f : Bool) → isOpenNow e ≡ b → isPlain (phaseOf (e .phase)) ≡ c → named-if b c f .reply ≡ plain n
-          → (isPlain (phaseOf (e .phase)) ≡ true) × (e .reason ≡ n) × (r.result e s .buffer ≡ s)
+          → (isPlain (phaseOf (e .phase)) ≡ true) × (e .cause ≡ n) × (r.result e s .buffer ≡ s)
       go true c false x y p = let w : _≡_ {A = ℕ} 0 1 = cc in absurd (omega arith)
       go true c true x y p = let w : _≡_ {A = ℕ} 0 1 = cc in absurd (omega arith)
       go false true f x y p = (y, cc, rw (x, y))

@@ -8,6 +8,7 @@ use native.Mathlib.Omega.{arith}
 use borrow.Author.Tests.{ltb-true, not-false}
 use lib.Dec.{ltb}
 use lib.ListN.{length, getD}
+use Rattle.eno.specs.declared.Cause.{Cause}
 use Rattle.wire.specs.Bytes.{sameBytes}
 use Rattle.eno.specs.Area.{synOption}
 use Rattle.eno.specs.Session.{inHand}
@@ -165,7 +166,7 @@ module _ (p : SessionRecord → Bool) where
   unfolding openDoor
   tame-open d e q h = tame-less d (openDoor e) q (let l = open-hand-less (e .resumed) (e .hand) in omega arith)
 
-  tame-plain : (d : Door) (n : ℕ) → Tame d (plainDoor n)
+  tame-plain : (d : Door) (n : Cause) → Tame d (plainDoor n)
   unfolding plainDoor
   tame-plain d n = tame-none d (plainDoor n) none-in-hand
 
@@ -177,7 +178,7 @@ module _ (p : SessionRecord → Bool) where
   tame-then d e opened o h = tame-open d e o h
   tame-then d e unencrypted o h = tame-less d e o h
 
-  tame-plain-or : (d e : Door) (x : Option ℕ) → Tame d e → Tame d (plainOr x e)
+  tame-plain-or : (d e : Door) (x : Option Cause) → Tame d e → Tame d (plainOr x e)
   tame-plain-or d e none t = t
   tame-plain-or d e (some n) t = tame-plain d n
 

@@ -4,6 +4,7 @@ use mathlib.Core.Path.{_≡_, refl}
 use mathlib.Core.List.{List, [], _∷_, _++_, map}
 use mathlib.Core.Bool.{Bool, true, false}
 use lib.ListN.{take, replicate}
+use Rattle.eno.specs.Cause.{numbered, firstCause}
 use Rattle.wire.specs.Bytes.{part, pasted, sameBytes}
 use Rattle.eno.specs.Walk.{items, itemsOf}
 use Rattle.eno.specs.Area.{optionAt, options, enos, choose, chosen, finding, partOf, synOption}
@@ -167,7 +168,7 @@ runs =
     ∷ run (on 0 (answer k2A false false (0x23 ∷ 0x21 ∷ []) [] (room 4)) ∷ on 0 (ack (0x45 ∷ 2 ∷ [])) ∷ on 0 (result (room 9)) ∷ [])
     (written 4 ∷ nowIn opened ∷ encrypted 1 0x21 fresh 9 noSecret ∷ []) (k2A ++ 0x45 ∷ 4 ∷ 1 ∷ 0x21 ∷ [])
     -- no option in the SYN+ACK: plain TCP, reason 2
-    ∷ run (on 0 (offerK1 false 4) ∷ on 0 (synAck []) ∷ on 0 (result []) ∷ []) (written 4 ∷ plain 2 ∷ plain 2 ∷ []) []
+    ∷ run (on 0 (offerK1 false 4) ∷ on 0 (synAck []) ∷ on 0 (result []) ∷ []) (written 4 ∷ plain (numbered 2) ∷ plain (numbered 2) ∷ []) []
     -- R stored, offered, resumed with its secret, and counted no more; its second offer is fresh
     ∷ run storedOnce
     (done ∷ holds 1 ∷ written 13 ∷ holds 0 ∷ nowIn opened ∷ encrypted 0 0xa3 resumed 26 secretR ∷ holds 0 ∷ done ∷ written 4 ∷ nowIn opened ∷ encrypted 0 0x23 fresh 8 noSecret ∷ [])
@@ -211,7 +212,7 @@ unfolding runs storedOnce untilFreed untilTaken told repliesOf lastBuffer doorsN
     part pasted sameBytes items itemsOf optionAt options enos choose chosen finding partOf synOption suboptionAt suboptions isIllFormed
     globals globalByte roleBit awareBit teps isKnown sentHalf expectedHalf inHand isFresh isBad isResumption halfOf matches named once ofA ofB wayOf wayOfBoth tepsOf validity lastValid agreed negotiate firstOf roleOf awareOf judge
     encode encodeAll optionWith globalOf globalPart freshPart resumptionPart without isListed freshTeps lastPart offered answered knownOnce isTepList eachN phaseOf kept ownOption peerOption transcriptOf noSession emptyHand handOf
-    idleDoor firstThat recordAt isSession refusal unless termsFit offeredAt offeredDoor offer-spec.offer candidate isCandidate fittingAt lastThat chooseTep answerReason answer-spec.answering plainDoor answeredDoor answerWith answerLength answer-spec.answer
+    idleDoor firstThat recordAt isSession refusal firstCause unless termsFit offeredAt offeredDoor offer-spec.offer candidate isCandidate fittingAt lastThat chooseTep answerReason answer-spec.answering plainDoor answeredDoor answerWith answerLength answer-spec.answer
     turn openDoor judgedDoor secondReason presenceReason received secretOf receive-spec.receive receive-spec.resend receive-spec.result receive-spec.close isHeld isRecord records-spec.store records-spec.forget records-spec.count
 run-table = refl
 
@@ -232,7 +233,7 @@ unfolding storedOnce entered entriesAfter entriesFrom entries entry less standin
     part pasted sameBytes items itemsOf optionAt options enos choose chosen finding partOf synOption suboptionAt suboptions isIllFormed
     globals globalByte roleBit awareBit teps isKnown sentHalf expectedHalf inHand isFresh isBad isResumption halfOf matches named once ofA ofB wayOf wayOfBoth tepsOf validity lastValid agreed negotiate firstOf roleOf awareOf judge
     encode encodeAll optionWith globalOf globalPart freshPart resumptionPart without isListed freshTeps lastPart offered answered knownOnce isTepList eachN phaseOf kept ownOption peerOption transcriptOf noSession emptyHand handOf
-    idleDoor firstThat recordAt isSession refusal unless termsFit offeredAt offeredDoor offer-spec.offer
+    idleDoor firstThat recordAt isSession refusal firstCause unless termsFit offeredAt offeredDoor offer-spec.offer
     turn openDoor judgedDoor secondReason presenceReason received secretOf receive-spec.receive receive-spec.resend receive-spec.result receive-spec.close isHeld isRecord records-spec.store records-spec.forget records-spec.count
 opened-once = (refl, refl, refl, refl, refl)
 
@@ -244,5 +245,5 @@ pub freed-row :
     × (mine (positionAt (after emptyUnit untilTaken) 0) ≡ 0 ∷ [])
     × (take 3 (after emptyUnit untilTaken .owners) ≡ 1 ∷ 8 ∷ 0 ∷ [])
 unfolding untilFreed untilTaken after doorsN rowsN idlePosition emptyUnit recordsAt orNext firstFree ownersAfter rowsAfter positionAfter enact carried stepOn step outcome cut effected
-    sameBytes isKnown inHand eachN noSession emptyHand idleDoor firstThat isSession refusal unless isHeld isRecord records-spec.store records-spec.forget
+    sameBytes isKnown inHand eachN noSession emptyHand idleDoor firstThat isSession refusal firstCause unless isHeld isRecord records-spec.store records-spec.forget
 freed-row = (refl, refl, refl, refl, refl)

@@ -8,6 +8,7 @@ use native.Mathlib.Omega.{arith}
 use borrow.Author.Tests.{ltb-false, eqb-true, not-false}
 use lib.Dec.{ltb, eqb, leb}
 use lib.ListN.{length, take}
+use Rattle.eno.specs.declared.Cause.{Cause}
 use Rattle.wire.specs.Bytes.{pasted, part}
 use Rattle.wire.specs.ByteLaws.{part-pasted}
 use Rattle.eno.specs.Area.{synOption}
@@ -138,7 +139,7 @@ pub data Story (d : ℕ) (cs : List Call) (e : Door) : Type 0 where
       → e ≡ offeredDoor option mandatory hand → length option ≤ 40 → synOption option ≡ option → Story d cs e
   waiting : (t : Terms) → Holding d cs e t → isWaiting (phaseOf (e .phase)) ≡ true → inHand (e .hand) ≡ t .hand → Story d cs e
   open-as : (t : Terms) → Holding d cs e t → phaseOf (e .phase) ≡ opened → (e .resumed ≡ true → inHand (e .hand) ≡ t .hand) → Story d cs e
-  plain-as : (n : ℕ) → PlainFor d cs n → e ≡ plainDoor n → Story d cs e
+  plain-as : (n : Cause) → PlainFor d cs n → e ≡ plainDoor n → Story d cs e
 
 -- phases of the doors that calls leave
 pub offered-phase : (w : List ℕ) (mandatory : Bool) (hand : Option SessionRecord) → phaseOf (offeredDoor w mandatory hand .phase) ≡ offering
@@ -157,7 +158,7 @@ open-phase : (e : Door) → phaseOf (openDoor e .phase) ≡ opened
 unfolding openDoor phaseOf
 open-phase e = refl
 
-pub plain-phase : (n : ℕ) → phaseOf (plainDoor n .phase) ≡ unencrypted
+pub plain-phase : (n : Cause) → phaseOf (plainDoor n .phase) ≡ unencrypted
 unfolding plainDoor phaseOf
 plain-phase n = refl
 
@@ -180,7 +181,7 @@ module _ (d : ℕ) where
   judged-more cs c t p (of-answer xs aware list nonce lent w u) =
       of-answer xs aware list nonce lent w (since-more Decided d cs xs (answer (t .area) aware (t .mandatory) list nonce lent) c p u)
 
-  plain-more : (cs : List Call) (c : Call) (n : ℕ) → InPlain (doorAfter d (cs ++ c ∷ [])) → PlainFor d cs n → PlainFor d (cs ++ c ∷ []) n
+  plain-more : (cs : List Call) (c : Call) (n : Cause) → InPlain (doorAfter d (cs ++ c ∷ [])) → PlainFor d cs n → PlainFor d (cs ++ c ∷ []) n
   plain-more cs c n p (by-judge t j e) = by-judge t (judged-more cs c t (ap isDecided p) j) e
   plain-more cs c n p (by-answer xs area aware mandatory list nonce lent e w u) =
       by-answer xs area aware mandatory list nonce lent e w (since-more InPlain d cs xs (answer area aware mandatory list nonce lent) c p u)
@@ -274,7 +275,7 @@ answered-stored w p mandatory t hand short q =
         ∙ ap₂ (λ (x y : List ℕ). x ++ y) (answered-peer w p mandatory t hand short q) (answered-own w p mandatory t hand short)
 
 -- what an answer comes to, taken apart
-reason-none : (m : Option ℕ) (c : Option Choice) (x : Choice) → reasonOr m (chosenOr c) ≡ with x → (m ≡ none) × (c ≡ some x)
+reason-none : (m : Option Cause) (c : Option Choice) (x : Choice) → reasonOr m (chosenOr c) ≡ with x → (m ≡ none) × (c ≡ some x)
 reason-none (some n) c x e = let z : _≡_ {A = ℕ} 0 1 = cc in absurd (omega arith)
 reason-none none none x e = let z : _≡_ {A = ℕ} 0 1 = cc in absurd (omega arith)
 reason-none none (some y) x e = let z : y ≡ x = cc in (refl, ap some z)
@@ -340,7 +341,7 @@ module _ (d : ℕ) (h : d < doorsN) (cs : List Call) where
       abbrev answerAsk : Ask
       answerAsk = answer area aware mandatory list nonce s
 
-      answer-plain : (n : ℕ) → a.answering seen mandatory area list ≡ plainFor n → Told-as answerAsk (answerWith seen aware mandatory (synOption area) nonce s (plainFor n))
+      answer-plain : (n : Cause) → a.answering seen mandatory area list ≡ plainFor n → Told-as answerAsk (answerWith seen aware mandatory (synOption area) nonce s (plainFor n))
       unfolding Told-as answerWith
       answer-plain n c e =
           plain-as n
@@ -440,7 +441,7 @@ module _ (d : ℕ) (h : d < doorsN) (cs : List Call) where
         by-this : (e : Door) → outcome true seen synAsk .door ≡ e → Decided e → JudgedBy d (cs ++ on d synAsk ∷ []) synTerms
         by-this e x p = of-offer xs cs b aware list resume nonce lent ack w since (since-by Decided synAsk e x p)
 
-        judged-plain : (n : ℕ) → asStored ≡ judged.plain n → Came synAsk (plainDoor n)
+        judged-plain : (n : Cause) → asStored ≡ judged.plain n → Came synAsk (plainDoor n)
         unfolding Came
         judged-plain n j x = plain-as n (by-judge synTerms (by-this (plainDoor n) x (ap isDecided (plain-phase n))) (same-terms ∙ j)) refl
 
@@ -508,14 +509,14 @@ module _ (d : ℕ) (h : d < doorsN) (cs : List Call) where
           (open-phase now) (open-hand now (t .hand) in-hand)
 
       second-story : (ack : Bool) (area : List ℕ) (then : Phase) → turn (phaseOf (now .phase)) true ack ≡ comparing then → (e : Door) → Came (receive true ack area) e
-          → (m : Option ℕ) → secondReason now area ≡ m → Came (receive true ack area) (plainOr m e)
+          → (m : Option Cause) → secondReason now area ≡ m → Came (receive true ack area) (plainOr m e)
       unfolding Came
       second-story ack area then q e f none s = f
       second-story ack area then q e f (some n) s =
           λ y. plain-as n (by-second cs t (x .by) (x .peer-is) ack area then q s (since-by InPlain (receive true ack area) (plainDoor n) y (plain-phase n))) refl
 
       presence-story : (ack : Bool) (area : List ℕ) → turn (phaseOf (now .phase)) false ack ≡ presence → (e : Door) → Came (receive false ack area) e
-          → (m : Option ℕ) → presenceReason area ≡ m → Came (receive false ack area) (plainOr m e)
+          → (m : Option Cause) → presenceReason area ≡ m → Came (receive false ack area) (plainOr m e)
       unfolding Came
       presence-story ack area q e f none s = f
       presence-story ack area q e f (some n) s =

@@ -28,7 +28,7 @@ pastDoor =
     record {
       phase = 0;
       mandatory = false;
-      reason = 0;
+      cause = record { reason = 0; place = 0; kind = 0 };
       role = 0;
       tep = 0;
       resumed = false;

@@ -56,7 +56,7 @@ pub enum Judgement {
 }
 
 /// Judges the option areas of two SYN segments (SYN+ACK included), each 0 to 40 bytes, for the end that sent `own`; `mandatory` says whether that end
-/// asks the other side to be aware.
+/// asks the other side to be aware. Where both areas are unreadable, place and kind are those of `own`.
 ///
 /// Refused: 2.
 ///
@@ -71,6 +71,9 @@ pub enum Judgement {
 ///
 /// let same = judge(&[0x45, 3, 0x23], &[0x45, 3, 0x23], false, None)?;
 /// assert_eq!(same, Judgement::Plain(Reason::EqualRoles));
+///
+/// let broken = judge(&[0x45, 3, 0x23], &[0x45, 3, 0x23, 2], false, None)?;
+/// assert_eq!(broken, Judgement::Plain(Reason::Unreadable { place: 3, kind: 2 }));
 ///
 /// let hand = InHand { tep: 0x23, role: Role::A.number(), identifier: [7; 18] };
 /// let own = [0x45, 12, 0xa3, 7, 7, 7, 7, 7, 7, 7, 7, 7];
@@ -137,6 +140,8 @@ mod tests {
                 role: 0,
                 tep,
                 resumed: 0,
+                place: 0,
+                option: 0,
             },
             transcript,
         })
@@ -155,6 +160,7 @@ mod tests {
         for (kind, number, tep, byte) in [
             (4, 81, 0x23, none),
             (4, 7, 0x23, 7),
+            (2, 1, 0, none),
             (2, 6, 0, 0),
             (2, 7, 0, none),
             (2, 8, 0, none),

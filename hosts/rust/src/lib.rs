@@ -182,7 +182,8 @@ pub mod tep {
 /// assert_eq!(find_status(&[0x01, 0x45, 0x03, 0x23], true), Ok(Status::Found));
 /// assert_eq!(find_status(&[0x45, 0x02, 0x45, 0x02], true), Ok(Status::Nothing));
 /// assert_eq!(find_status(&[0x45, 0x02, 0x45, 0x02], false), Ok(Status::Found));
-/// assert_eq!(find_status(&[0x45, 0x03], false), Ok(Status::Unreadable));
+/// let broken = Status::Unreadable { place: 6, kind: 8 };
+/// assert_eq!(find_status(&[0x01, 0x01, 0x02, 0x04, 0x05, 0xb4, 0x08], false), Ok(broken));
 /// assert_eq!(find_status(&[1; 41], false), Err(Error::Refused(Refusal::AreaTooLong)));
 /// ```
 pub fn find_status(area: &[u8], syn: bool) -> Result<Status, Error> {

@@ -123,33 +123,45 @@ impl core::error::Error for Error {}
 
 /// Why a connection is plain TCP. It goes on without encryption; none is a refusal.
 #[derive(Clone, Copy, PartialEq, Eq, Debug)]
-#[repr(u8)]
 pub enum Reason {
-    /// The option area is unreadable.
-    Unreadable = 1,
-    /// There is no ENO option.
-    NoOption = 2,
-    /// The ENO option is ill-formed.
-    IllFormed = 3,
-    /// Both sides sent the same b.
-    EqualRoles = 4,
-    /// This end is mandatory-aware, and the other side's a is 0.
-    NotAware = 5,
-    /// There is no valid TEP.
-    NoTep = 6,
-    /// The option of a second SYN is another one.
-    Altered = 7,
+    /// 1: the option area is unreadable. One option makes it so: its length byte is absent, below 2, or beyond the area's end.
+    Unreadable {
+        /// Where that option begins, 0 to 39 from the area's start.
+        place: u8,
+        /// Its kind byte, 2 to 255.
+        kind: u8,
+    },
+    /// 2: there is no ENO option.
+    NoOption,
+    /// 3: the ENO option is ill-formed.
+    IllFormed,
+    /// 4: both sides sent the same b.
+    EqualRoles,
+    /// 5: this end is mandatory-aware, and the other side's a is 0.
+    NotAware,
+    /// 6: there is no valid TEP.
+    NoTep,
+    /// 7: the option of a second SYN is another one.
+    Altered,
 }
 
 impl Reason {
     /// The number in document 01.
     pub const fn number(self) -> u8 {
-        self as u8
+        match self {
+            Reason::Unreadable { .. } => 1,
+            Reason::NoOption => 2,
+            Reason::IllFormed => 3,
+            Reason::EqualRoles => 4,
+            Reason::NotAware => 5,
+            Reason::NoTep => 6,
+            Reason::Altered => 7,
+        }
     }
 
+    /// The reasons that have a number alone.
     fn read(number: usize) -> Option<Reason> {
         Some(match number {
-            1 => Reason::Unreadable,
             2 => Reason::NoOption,
             3 => Reason::IllFormed,
             4 => Reason::EqualRoles,
@@ -164,7 +176,9 @@ impl Reason {
 impl fmt::Display for Reason {
     fn fmt(&self, f: &mut fmt::Formatter<'_>) -> fmt::Result {
         f.write_str(match self {
-            Reason::Unreadable => "unreadable option area",
+            Reason::Unreadable { place, kind } => {
+                return write!(f, "unreadable option area: place {place}, kind {kind:02x}");
+            }
             Reason::NoOption => "no ENO option",
             Reason::IllFormed => "ill-formed ENO option",
             Reason::EqualRoles => "both sides sent the same b",
@@ -275,8 +289,13 @@ pub enum Status {
     Found,
     /// No ENO option, or two of them in a SYN.
     Nothing,
-    /// Bytes that are no list of options.
-    Unreadable,
+    /// Bytes that are no list of options. One option makes them so: its length byte is absent, below 2, or beyond the area's end.
+    Unreadable {
+        /// Where that option begins, 0 to 39 from the area's start.
+        place: u8,
+        /// Its kind byte, 2 to 255.
+        kind: u8,
+    },
 }
 
 /// A reply that is no refusal, its numbers tested one by one.
@@ -300,6 +319,9 @@ impl Told {
     /// Reads the library's numbers; `room` is the length of the lent buffer. What a kind does not have must be 0.
     #[inline]
     pub(crate) fn read(reply: &ffi::Reply, room: usize) -> Result<Told, Error> {
+        if (reply.place, reply.option) != (0, 0) {
+            return Told::blamed(reply).ok_or(Error::Unexpected);
+        }
         match (reply.kind, reply.role, reply.tep, reply.resumed) {
             (0, 0, 0, 0) => Err(refusal(reply.number)),
             (kind, 0, 0, 0) => Told::bare(kind, reply.number, room).ok_or(Error::Unexpected),
@@ -312,6 +334,25 @@ impl Told {
                 })
             }
             _ => Err(Error::Unexpected),
+        }
+    }
+
+    /// The replies about an unreadable area: the place is one of the area, and the kind that of an option with a length byte.
+    fn blamed(reply: &ffi::Reply) -> Option<Told> {
+        let (place, kind) = (reply.place, reply.option);
+        if usize::from(place) >= crate::OPTION || kind < 2 {
+            return None;
+        }
+        match (
+            reply.kind,
+            reply.number,
+            reply.role,
+            reply.tep,
+            reply.resumed,
+        ) {
+            (2, 1, 0, 0, 0) => Some(Told::Plain(Reason::Unreadable { place, kind })),
+            (9, 0, 0, 0, 0) => Some(Told::Status(Status::Unreadable { place, kind })),
+            _ => None,
         }
     }
 
@@ -330,7 +371,6 @@ impl Told {
             (6, count) if count <= crate::RECORDS => Told::Holds(count),
             (7, 0) => Told::Status(Status::Found),
             (8, 0) => Told::Status(Status::Nothing),
-            (9, 0) => Told::Status(Status::Unreadable),
             (11, next) => Told::Next(next as u64),
             _ => return None,
         })
@@ -425,12 +465,25 @@ mod tests {
     use super::*;
 
     fn read(number: usize, kind: u8, role: u8, tep: u8, resumed: u8) -> Result<Told, Error> {
+        placed(number, kind, (role, tep, resumed), 0, 0)
+    }
+
+    /// With a place and the kind of an option.
+    fn placed(
+        number: usize,
+        kind: u8,
+        (role, tep, resumed): (u8, u8, u8),
+        place: u8,
+        option: u8,
+    ) -> Result<Told, Error> {
         let reply = ffi::Reply {
             number,
             kind,
             role,
             tep,
             resumed,
+            place,
+            option,
         };
         Told::read(&reply, 40)
     }
@@ -445,16 +498,18 @@ mod tests {
         for (kind, least, most) in [
             (0, 1, 16),
             (1, 0, 40),
-            (2, 1, 7),
+            (2, 2, 7),
             (3, 0, 4),
             (5, 0, 0),
             (6, 0, 4),
             (7, 0, 0),
             (8, 0, 0),
-            (9, 0, 0),
         ] {
             for number in least..=most {
                 assert!(!unexpected(read(number, kind, 0, 0, 0)));
+                for (place, option) in [(0, 2), (0, 0x45), (6, 8), (39, 255), (1, 0), (0, 1)] {
+                    assert!(unexpected(placed(number, kind, (0, 0, 0), place, option)));
+                }
                 assert!(unexpected(read(number, kind, 1, 0, 0)));
                 assert!(unexpected(read(number, kind, 0, 0x23, 0)));
                 assert!(unexpected(read(number, kind, 0, 0, 1)));
@@ -463,7 +518,7 @@ mod tests {
             assert!(unexpected(read(usize::MAX, kind, 0, 0, 0)));
             assert!(least == 0 || unexpected(read(least - 1, kind, 0, 0, 0)));
         }
-        for kind in (10..=255).filter(|kind| *kind != 11) {
+        for kind in (9..=255).filter(|kind| *kind != 11) {
             assert!(unexpected(read(0, kind, 0, 0, 0)));
         }
         assert!(matches!(
@@ -471,11 +526,45 @@ mod tests {
             Ok(Told::Next(u64::MAX))
         ));
         assert!(unexpected(read(95, 11, 1, 0, 0)));
+        assert!(unexpected(placed(95, 11, (0, 0, 0), 0, 2)));
+        assert!(unexpected(placed(40, 4, (1, 0xa3, 1), 0, 2)));
+        assert!(unexpected(placed(40, 4, (1, 0xa3, 1), 1, 0)));
         assert!(!unexpected(read(40, 4, 1, 0xa3, 1)));
         assert!(unexpected(read(41, 4, 1, 0xa3, 1)));
         assert!(unexpected(read(40, 4, 2, 0xa3, 1)));
         assert!(unexpected(read(40, 4, 1, 0xa3, 2)));
         assert!(unexpected(read(40, 4, 0, 0, 0)));
+    }
+
+    /// Every place and every kind: those of an unreadable area with reason 1 and with the finder's word, and no other.
+    #[test]
+    fn places_and_kinds() {
+        for (place, option) in (0..=255).flat_map(|place| (0..=255).map(move |kind| (place, kind)))
+        {
+            let good = place < 40 && option > 1;
+            let plain = placed(1, 2, (0, 0, 0), place, option);
+            let word = placed(0, 9, (0, 0, 0), place, option);
+            if !good {
+                assert!(unexpected(plain) && unexpected(word));
+                continue;
+            }
+            assert!(matches!(
+                plain,
+                Ok(Told::Plain(Reason::Unreadable { place: p, kind: k })) if (p, k) == (place, option)
+            ));
+            assert!(matches!(
+                word,
+                Ok(Told::Status(Status::Unreadable { place: p, kind: k })) if (p, k) == (place, option)
+            ));
+        }
+        for others in [(1, 0, 0), (0, 0x23, 0), (0, 0, 1)] {
+            assert!(unexpected(placed(1, 2, others, 6, 8)));
+            assert!(unexpected(placed(0, 9, others, 6, 8)));
+        }
+        assert!(unexpected(placed(0, 2, (0, 0, 0), 6, 8)));
+        assert!(unexpected(placed(1, 9, (0, 0, 0), 6, 8)));
+        let shown = std::format!("{}", Reason::Unreadable { place: 6, kind: 8 });
+        assert_eq!(shown, "unreadable option area: place 6, kind 08");
     }
 
     #[test]
@@ -484,8 +573,16 @@ mod tests {
             let refusal = Refusal::read(number).map(|refusal| usize::from(refusal.number()));
             assert_eq!(refusal, (1..=16).contains(&number).then_some(number));
             let reason = Reason::read(number).map(|reason| usize::from(reason.number()));
-            assert_eq!(reason, (1..=7).contains(&number).then_some(number));
+            assert_eq!(reason, (2..=7).contains(&number).then_some(number));
         }
+        assert_eq!(
+            Reason::Unreadable {
+                place: 39,
+                kind: 255
+            }
+            .number(),
+            1
+        );
     }
 
     #[test]
@@ -496,6 +593,8 @@ mod tests {
             role: 0,
             tep: if kind == 4 { 0x23 } else { 0 },
             resumed,
+            place: 0,
+            option: 0,
         };
         let mut secret = [0; 32];
         secret[31] = 1;

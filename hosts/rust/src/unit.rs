@@ -121,7 +121,8 @@ impl LinkUnit {
         read(&step.reply, out.len(), Told::written)
     }
 
-    /// What the connection is. In Open it writes the transcript, for which 80 bytes are always enough. Changes nothing and may be asked again.
+    /// What the connection is. In Open it writes the transcript, for which 80 bytes are always enough; in Plain it gives the reason, with place and kind
+    /// where it is [`Unreadable`](crate::Reason::Unreadable). Changes nothing and may be asked again.
     ///
     /// Refused: 1; 4 where the door is neither Open nor Plain; 5 in Open.
     pub fn result(&self, door: usize, out: &mut [u8]) -> Result<Outcome, Error> {

@@ -8,10 +8,10 @@ mod wrong;
 
 use binding::{Binding, Calls};
 use driver::calls::Unit;
-use driver::counts::Counts;
+use driver::counts::{Counts, LEAST};
 use driver::links::{Links, STRANGE};
 use driver::random::{calls, seed};
-use driver::{every, finder, frames, generations, init, isolation, judge, limits};
+use driver::{every, finder, frames, generations, init, isolation, judge, limits, places};
 use model::{Model, Wire};
 
 fn good<T>(outcome: Result<T, String>) -> T {
@@ -37,9 +37,11 @@ fn unit_calls() {
         "resumed open as B",
         "crossed open",
         "freed row taken by another door",
+        "result of an unreadable area",
         STRANGE,
     ]);
     counts.demand_refusals(&[1, 2, 3, 4, 5, 6, 7, 16]);
+    counts.demand_places(10);
 }
 
 fn isolated<U: Unit>(title: &str, make: impl Fn() -> U) {
@@ -70,6 +72,7 @@ fn option_areas() {
     let counts = good(finder::compare(seed(), calls(), &Wire, &Calls));
     counts.print("option areas");
     counts.demand(["found", "none", "unreadable", "refusal  2"]);
+    counts.demand_places(LEAST);
 }
 
 /// Every short option and area, and a full pool.
@@ -84,6 +87,17 @@ fn small_cases_in_full() {
     pool.print("the full pool");
     assert_eq!(pool.of("records brought out"), 96);
     assert_eq!(pool.of("resumed open"), 96);
+}
+
+/// Every place at which an area can be unreadable, before every call that reads one.
+#[test]
+fn places_in_full() {
+    println!("unreadable areas");
+    println!("  finder {}", good(places::finder(&Wire, &Calls)));
+    println!("  judge  {}", good(places::judge(&Wire, &Calls)));
+    let counts = good(places::unit(Model::new(), Binding::new()));
+    counts.print("unreadable areas before the unit");
+    counts.demand_places(LEAST);
 }
 
 /// Every ciphertext length, generation records at the limits, every short option before the judge.
@@ -105,6 +119,7 @@ fn judgements() {
     let counts = good(judge::compare(seed(), calls(), &Wire, &Calls));
     counts.print("judgements");
     counts.demand_refusals(&[2]);
+    counts.demand_places(LEAST);
     counts.demand([
         "reason 1",
         "reason 2",

@@ -4,6 +4,7 @@ use mathlib.Core.List.{List}
 use mathlib.Core.Bool.{Bool}
 use Prim.Native.Nat.{ℕ}
 use lib.ListN.{length}
+use Rattle.eno.specs.Cause.{numbered}
 use Rattle.eno.specs.declared.InHand.{InHand}
 use Rattle.door.specs.declared.Door.{Door}
 use Rattle.door_data.specs.Laws.{kept-whole}
@@ -17,7 +18,7 @@ door n m mandatory hand tep own peer =
     record {
       phase = 3;
       mandatory = mandatory;
-      reason = 0;
+      cause = numbered 0;
       role = 1;
       tep = tep;
       resumed = hand .held;

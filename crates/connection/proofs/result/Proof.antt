@@ -11,7 +11,7 @@ enum-told : tie.Need-enum-told
 enum-told c = search needs
 
 open-result-requires : tie.Need-open-result-requires
-open-result-requires c κs = is-open (c .before .before .before .before .before .args .door) (c .before .before .before .phase-of .result) (c .before .before .before .phase-of .ensures) (c .before .enum-told .given .1)
+open-result-requires c κs = is-open (c .before .before .before .before .before .before .args .door) (c .before .before .before .phase-of .result) (c .before .before .before .phase-of .ensures) (c .before .enum-told .given .1)
 
 enum-told-2 : tie.Need-enum-told-2
 enum-told-2 c = search needs

@@ -16,7 +16,8 @@ use Rattle.eno.specs.Judge.{isFresh, isBad, isResumption, halfOf, Way, fresh, r
 use Rattle.eno.specs.Laws.Walk.{unroll-item, unroll-end}
 use Rattle.eno.specs.Laws.Suboption.{sentAs, suboption-end, suboption-global, suboption-bare, suboption-to-end, suboption-onward}
 use Rattle.eno.specs.declared.SessionRecord.{SessionRecord}
-use Rattle.door.specs.Outcome.{refusal}
+use Rattle.eno.specs.Cause.{firstCause}
+use Rattle.eno.specs.declared.Cause.{Cause}
 use Rattle.door.specs.Answer.{answerReason}
 
 -- an option of a global byte and one TEP, which runs to the end
@@ -43,8 +44,8 @@ pub reads-bare : (n g byte : ℕ) → g < 0x20 → 0x20 ≤ byte → byte < 0x80
 reads-bare n g byte small low high = read-two n g byte [] small (sentAs false byte 4 0) 4 (sym (suboption-bare (0x45 ∷ n ∷ g ∷ byte ∷ []) 3 (omega arith) low high)) (omega arith)
 
 -- no refusal: no test holds
-pub none-holds : (a : Bool) (n : ℕ) (l : List (Bool × ℕ)) → refusal ((a, n) ∷ l) ≡ none → (a ≡ false) × (refusal l ≡ none)
-unfolding refusal
+pub none-holds : (a : Bool) (n : Cause) (l : List (Bool × Cause)) → firstCause ((a, n) ∷ l) ≡ none → (a ≡ false) × (firstCause l ≡ none)
+unfolding firstCause
 none-holds true n l e = let z : _≡_ {A = ℕ} 0 1 = cc in absurd (omega arith)
 none-holds false n l e = (refl, e)
 
@@ -70,11 +71,11 @@ pub record Accepts (mandatory : Bool) (area : List ℕ) : Type 0 where
 pub accepts : (mandatory : Bool) (area : List ℕ) → answerReason mandatory area ≡ none → Accepts mandatory area
 unfolding answerReason
 accepts mandatory area e =
-    let a = none-holds (isUnreadable (finding area true)) 1 _ e in
-    let b = none-holds (isMissing (finding area true)) 2 _ (a .1) in
-    let c = none-holds (isIllFormed (suboptions (synOption area))) 3 _ (b .1) in
-    let d = none-holds (eqb (roleOf (synOption area)) 1) 4 _ (c .1) in
-    let f = none-holds (mandatory && eqb (awareOf (synOption area)) 0) 5 _ (d .1) in
+    let a = none-holds (isUnreadable (finding area true)) _ _ e in
+    let b = none-holds (isMissing (finding area true)) _ _ (a .1) in
+    let c = none-holds (isIllFormed (suboptions (synOption area))) _ _ (b .1) in
+    let d = none-holds (eqb (roleOf (synOption area)) 1) _ _ (c .1) in
+    let f = none-holds (mandatory && eqb (awareOf (synOption area)) 0) _ _ (d .1) in
     record { not-unreadable = a .0; not-missing = b .0; not-ill = c .0; not-b = d .0; aware-enough = f .0 }
 
 -- what B judges by

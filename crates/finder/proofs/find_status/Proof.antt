@@ -14,11 +14,11 @@ enum-told c = search needs
 enum-told-2 : tie.Need-enum-told-2
 enum-told-2 c = search needs
 
+enum-known-outcome : tie.Need-enum-known-outcome
+enum-known-outcome c = search needs
+
 enum-told-3 : tie.Need-enum-told-3
 enum-told-3 c = search needs
-
-enum-told-4 : tie.Need-enum-told-4
-enum-told-4 c = search needs
 
 returns : tie.Need-returns
 unfolding status
@@ -30,11 +30,11 @@ returns-2 c = told _ _ _ (c .before .before .locate .ensures) _ (c .enum-told2 .
 
 returns-3 : tie.Need-returns-3
 unfolding status
-returns-3 c = told _ _ _ (c .before .before .locate .ensures) _ (c .enum-told3 .given .1)
+returns-3 c = told _ _ _ (c .before .before .before .locate .ensures) _ (c .before .outcome .given .1)
 
 returns-4 : tie.Need-returns-4
 unfolding status
-returns-4 c = told _ _ _ (c .before .before .locate .ensures) _ (c .enum-told4 .given .1)
+returns-4 c = told _ _ _ (c .before .before .locate .ensures) _ (c .enum-told3 .given .1)
 
 pub find-status-spec : {M : Type 1} → statement M
 find-status-spec =
@@ -43,8 +43,8 @@ find-status-spec =
     locate-requires
     enum-told
     enum-told-2
+    enum-known-outcome
     enum-told-3
-    enum-told-4
     returns
     returns-2
     returns-3

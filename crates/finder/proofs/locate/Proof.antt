@@ -47,6 +47,9 @@ enum-told c = search needs
 enum-known-p : tie.Need-enum-known-p Inv-loop μ-loop
 enum-known-p c = search needs
 
+cast-at : tie.Need-cast-at Inv-loop μ-loop
+cast-at c = let v = c .before .before .before .before .loop .inv in omega (arith, v .short, v .at-most)
+
 returns-2 : tie.Need-returns-2 Inv-loop μ-loop
 returns-2 c = record { right = seen-fault _ _ (c .before .before .before .before .loop .inv) (faulted (c .before)); within = tt }
 
@@ -100,6 +103,7 @@ locate-spec =
     option-at-requires
     enum-told
     enum-known-p
+    cast-at
     returns-2
     enum-known-p-2
     loop-less

@@ -4,7 +4,7 @@ use mathlib.Core.Path.{_≡_, _∙_, ap}
 use mathlib.Core.List.{[]}
 use Rattle.judge.specs.Answers.{judgedOf}
 use Rattle.judge.specs.declared.Verdict.{Verdict}
-use Rattle.host_reply.specs.Numbers.{ofKind}
+use Rattle.host_reply.specs.Numbers.{plainNumbers}
 use Rattle.host_judge.specs.Replies.{judgedNumbers}
 use Rattle.host_reply.specs.declared.ReplyNumbers.{ReplyNumbers}
 use Rattle.host_reply.specs.Telling.{told}
@@ -17,7 +17,7 @@ abbrev view : (n : ℕ) → Verdict → ReplyNumbers
 view n x = judgedNumbers (judgedOf x []) n
 
 abbrev encryptedOf : (n role tep resumed : ℕ) → ReplyNumbers
-encryptedOf n role tep resumed = record { number = n; kind = 4; role = role; tep = tep; resumed = resumed }
+encryptedOf n role tep resumed = record { number = n; kind = 4; role = role; tep = tep; resumed = resumed; place = 0; option = 0 }
 
 enum-told : tie.Need-enum-told
 enum-told c = search needs
@@ -28,11 +28,11 @@ of-kind-requires c κs = search needs
 enum-known-verdict : tie.Need-enum-known-verdict
 enum-known-verdict c = search needs
 
-reason-number-requires : tie.Need-reason-number-requires
-reason-number-requires c κs = search needs
+cause-of-requires : tie.Need-cause-of-requires
+cause-of-requires c κs = search needs
 
-of-kind-requires-2 : tie.Need-of-kind-requires-2
-of-kind-requires-2 c κs = search needs
+plain-numbers-requires : tie.Need-plain-numbers-requires
+plain-numbers-requires c κs = search needs
 
 enum-known-verdict-2 : tie.Need-enum-known-verdict-2
 enum-known-verdict-2 c = search needs
@@ -46,7 +46,7 @@ returns c = told (view _) (c .before .enum-told .given .1) (c .of-kind .ensures)
 
 returns-2 : tie.Need-returns-2
 unfolding judgedNumbers
-returns-2 c = told (view _) (c .before .before .before .verdict .given .1) (c .of-kind2 .ensures ∙ ap (ofKind 2) (c .before .reason-number .ensures))
+returns-2 c = told (view _) (c .before .before .before .verdict .given .1) (c .plain-numbers .ensures ∙ ap plainNumbers (c .before .cause-of .ensures))
 
 returns-3 : tie.Need-returns-3
 unfolding judgedNumbers
@@ -59,8 +59,8 @@ verdict-numbers-spec =
     enum-told
     of-kind-requires
     enum-known-verdict
-    reason-number-requires
-    of-kind-requires-2
+    cause-of-requires
+    plain-numbers-requires
     enum-known-verdict-2
     flag-number-requires
     returns

@@ -4,6 +4,7 @@ use mathlib.Core.List.{List}
 use mathlib.Core.Bool.{Bool, false}
 use Prim.Native.Nat.{ℕ}
 use lib.ListN.{length, replicate}
+use Rattle.eno.specs.Cause.{numbered}
 use Rattle.eno.specs.declared.InHand.{InHand}
 use Rattle.door.specs.Door.{kept}
 use Rattle.door.specs.declared.Door.{Door}
@@ -18,7 +19,7 @@ made n mandatory hand own =
     record {
       phase = 1;
       mandatory = mandatory;
-      reason = 0;
+      cause = numbered 0;
       role = 0;
       tep = 0;
       resumed = false;

@@ -12,13 +12,13 @@ open-if-requires : tie.Need-open-if-requires
 open-if-requires c κs = search needs
 
 returns : tie.Need-returns
-returns c = compared-same _ (c .before .before .before .before .args .opens) _ (c .before .before .second-reason .result) (c .before .before .second-reason .ensures) (omega arith) _ (c .open-if .ensures)
+returns c = compared-same _ (c .before .before .before .before .before .args .opens) _ (c .before .before .before .second-reason .result) (c .before .before .before .second-reason .ensures) (omega arith) _ (c .open-if .ensures)
 
 plain-door-requires : tie.Need-plain-door-requires
 plain-door-requires c κs = search needs
 
 returns-2 : tie.Need-returns-2
-returns-2 c = compared-plain _ (c .before .before .before .before .args .opens) _ (c .before .before .second-reason .result) (c .before .before .second-reason .ensures) (omega arith) _ (c .plain-door .ensures)
+returns-2 c = compared-plain _ (c .before .before .before .before .before .args .opens) _ (c .before .before .before .second-reason .result) (c .before .before .before .second-reason .ensures) (omega arith) _ (c .plain-door .ensures)
 
 pub after-comparing-spec : {M : Type 1} → statement M
 after-comparing-spec =

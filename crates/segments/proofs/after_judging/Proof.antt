@@ -32,8 +32,8 @@ enum-told c = search needs
 enum-known-verdict : tie.Need-enum-known-verdict
 enum-known-verdict c = search needs
 
-reason-number-requires : tie.Need-reason-number-requires
-reason-number-requires c κs = search needs
+cause-of-requires : tie.Need-cause-of-requires
+cause-of-requires c κs = search needs
 
 plain-door-requires : tie.Need-plain-door-requires
 plain-door-requires c κs = search needs
@@ -54,7 +54,7 @@ returns : tie.Need-returns
 returns c = judged-refused (c .before .before .before .before .before .before .before .before .before .args .door) (c .before .before .before .before .before .before .before .before .before .args .opens) _ _ (c .before .before .before .before .before .before .kept-length .ensures .0) _ (c .before .before .judge .ensures) (c .enum-told .given .1)
 
 returns-2 : tie.Need-returns-2
-returns-2 c = judged-plain (c .before .before .before .before .before .before .before .before .before .before .before .before .args .door) (c .before .before .before .before .before .before .before .before .before .before .before .before .args .opens) _ _ (c .before .before .before .before .before .before .before .before .before .kept-length .ensures .0) _ (c .before .before .before .before .before .judge .ensures) _ (c .before .before .before .verdict .given .1) _ (c .before .reason-number .ensures) _ (c .plain-door .ensures)
+returns-2 c = judged-plain (c .before .before .before .before .before .before .before .before .before .before .before .before .args .door) (c .before .before .before .before .before .before .before .before .before .before .before .before .args .opens) _ _ (c .before .before .before .before .before .before .before .before .before .kept-length .ensures .0) _ (c .before .before .before .before .before .judge .ensures) _ (c .before .before .before .verdict .given .1) _ (c .before .cause-of .ensures) _ (c .plain-door .ensures)
 
 returns-3 : tie.Need-returns-3
 returns-3 c = judged-encrypted (c .before .before .before .before .before .before .before .before .before .before .before .before .before .args .door) (c .before .before .before .before .before .before .before .before .before .before .before .before .before .args .opens) _ _ (c .before .before .before .before .before .before .before .before .before .before .kept-length .ensures .0) _ (c .before .before .before .before .before .before .judge .ensures) _ _ _ (c .before .before .before .before .verdict2 .given .1) _ (c .before .before .find-option .ensures) _ (c .before .judged-door .ensures) _ (c .open-if .ensures)
@@ -70,7 +70,7 @@ after-judging-spec =
     judge-requires
     enum-told
     enum-known-verdict
-    reason-number-requires
+    cause-of-requires
     plain-door-requires
     enum-known-verdict-2
     find-option-requires

@@ -12,13 +12,13 @@ open-door-requires : tie.Need-open-door-requires
 open-door-requires c κs = search needs
 
 returns : tie.Need-returns
-returns c = presence-found _ _ (c .before .before .absence .result) (c .before .before .absence .ensures) (omega arith) _ (c .open-door .ensures)
+returns c = presence-found _ _ (c .before .before .before .absence .result) (c .before .before .before .absence .ensures) (omega arith) _ (c .open-door .ensures)
 
 plain-door-requires : tie.Need-plain-door-requires
 plain-door-requires c κs = search needs
 
 returns-2 : tie.Need-returns-2
-returns-2 c = presence-plain _ _ (c .before .before .absence .result) (c .before .before .absence .ensures) (omega arith) _ (c .plain-door .ensures)
+returns-2 c = presence-plain _ _ (c .before .before .before .absence .result) (c .before .before .before .absence .ensures) (omega arith) _ (c .plain-door .ensures)
 
 pub after-presence-spec : {M : Type 1} → statement M
 after-presence-spec =

@@ -8,6 +8,7 @@ use native.Mathlib.Omega.{arith}
 use borrow.Author.Tests.{ltb-true, not-false}
 use lib.Dec.{ltb}
 use lib.ListN.{length, getD}
+use Rattle.eno.specs.declared.Cause.{Cause}
 use Rattle.eno.specs.Area.{synOption}
 use Rattle.eno.specs.Session.{inHand}
 use Rattle.eno.specs.Judge as judged
@@ -71,7 +72,7 @@ none-then : (d e : Door) → inHand (e .hand) ≡ none → NoneNew d e
 none-then d e h p = rw h (omega arith)
 
 -- receive
-plain-none : (d : Door) (n : ℕ) → NoneNew d (plainDoor n)
+plain-none : (d : Door) (n : Cause) → NoneNew d (plainDoor n)
 unfolding plainDoor
 plain-none d n = none-then d (plainDoor n) none-in-hand
 
@@ -87,7 +88,7 @@ then-none d e answering h = h
 then-none d e opened h = open-none d e h
 then-none d e unencrypted h = h
 
-plain-or-none : (d e : Door) (x : Option ℕ) → NoneNew d e → NoneNew d (plainOr x e)
+plain-or-none : (d e : Door) (x : Option Cause) → NoneNew d e → NoneNew d (plainOr x e)
 plain-or-none d e none h = h
 plain-or-none d e (some n) h = plain-none d n
 

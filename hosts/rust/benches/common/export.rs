@@ -3,7 +3,7 @@
 
 use door_link::{Answer, Offer};
 
-use crate::driver::calls::{PhaseNow, Reply, Unit};
+use crate::driver::calls::{Cause, PhaseNow, Reply, Unit};
 use crate::ffi;
 
 pub struct Export(ffi::Unit);
@@ -13,7 +13,11 @@ fn told(reply: &ffi::Reply) -> Reply {
     match reply.kind {
         0 => Reply::Refused(number as u8),
         1 => Reply::Written(number),
-        2 => Reply::Plain(number as u8),
+        2 => Reply::Plain(Cause {
+            reason: number as u8,
+            place: reply.place,
+            kind: reply.option,
+        }),
         3 => Reply::Now(match number {
             0 => PhaseNow::Idle,
             1 => PhaseNow::Offered,
@@ -90,7 +94,7 @@ impl Unit for Export {
         let step = ffi::receive(&self.0, door, syn, ack, area);
         let reply = self.take(&step);
         match reply {
-            Reply::Plain(reason) => Reply::Now(PhaseNow::Plain(reason)),
+            Reply::Plain(cause) => Reply::Now(PhaseNow::Plain(cause)),
             _ => reply,
         }
     }

@@ -25,7 +25,7 @@ use driver::calls::Unit;
 #[allow(unused_imports)]
 use door_link::{Answer, Enabled, Generations, InHand, Offer};
 
-const UNIT: usize = 8592;
+const UNIT: usize = 8640;
 
 static COPIES: AtomicUsize = AtomicUsize::new(0);
 static FILLS: AtomicUsize = AtomicUsize::new(0);

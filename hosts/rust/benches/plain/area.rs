@@ -4,7 +4,11 @@
 pub enum Finding<'a> {
     Found(&'a [u8]),
     Nothing,
-    Unreadable,
+    /// Where the option begins that makes it so, and its kind.
+    Unreadable {
+        place: u8,
+        kind: u8,
+    },
 }
 
 /// Looks through an area of at most 40 bytes.
@@ -17,12 +21,10 @@ pub fn find(area: &[u8], syn: bool) -> Finding<'_> {
             0 => break,
             1 => rest = tail,
             _ => {
-                let Some(&length) = tail.first() else {
-                    return Finding::Unreadable;
-                };
-                let length = usize::from(length);
+                let length = tail.first().map_or(0, |length| usize::from(*length));
                 if length < 2 || length > rest.len() {
-                    return Finding::Unreadable;
+                    let place = (area.len() - rest.len()) as u8;
+                    return Finding::Unreadable { place, kind };
                 }
                 let (option, tail) = rest.split_at(length);
                 if kind == 0x45 {

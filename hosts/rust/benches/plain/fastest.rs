@@ -2,6 +2,7 @@
 
 use super::judge::{Judged, PLAIN, REFUSED};
 use super::Session;
+use crate::driver::calls::Cause;
 
 /// What an option sent of one known TEP: how often, the byte, its place in the option, and the place and length of its data.
 #[derive(Clone, Copy)]
@@ -26,9 +27,9 @@ struct Table {
     entries: [Entry; 4],
 }
 
-/// The place of the only ENO option, as start and end; or reason 1 or 2.
+/// The place of the only ENO option, as start and end; or reason 1 with its place and kind, or reason 2.
 #[inline(always)]
-fn find(area: &[u8]) -> Result<(usize, usize), usize> {
+fn find(area: &[u8]) -> Result<(usize, usize), Cause> {
     let mut at = 0;
     let mut found = None;
     let mut twice = false;
@@ -42,11 +43,11 @@ fn find(area: &[u8]) -> Result<(usize, usize), usize> {
             continue;
         }
         if at + 1 >= area.len() {
-            return Err(1);
+            return Err(Cause::unreadable(at as u8, kind));
         }
         let length = usize::from(area[at + 1]);
         if length < 2 || at + length > area.len() {
-            return Err(1);
+            return Err(Cause::unreadable(at as u8, kind));
         }
         if kind == 0x45 {
             twice |= found.is_some();
@@ -56,7 +57,7 @@ fn find(area: &[u8]) -> Result<(usize, usize), usize> {
     }
     match found {
         Some(place) if !twice => Ok(place),
-        _ => Err(2),
+        _ => Err(Cause::bare(2)),
     }
 }
 
@@ -111,7 +112,9 @@ pub fn judge(own: &[u8], peer: &[u8], mandatory: bool, hand: Option<&Session>) -
     }
     let (own, peer) = match (find(own), find(peer)) {
         (Ok((begin, end)), Ok((start, stop))) => (&own[begin..end], &peer[start..stop]),
-        (Err(1), _) | (_, Err(1)) => return Judged::short(PLAIN, 1),
+        (Err(cause @ Cause { reason: 1, .. }), _) | (_, Err(cause @ Cause { reason: 1, .. })) => {
+            return Judged::plain(cause);
+        }
         _ => return Judged::short(PLAIN, 2),
     };
     let (Some(mine), Some(theirs)) = (table(own), table(peer)) else {

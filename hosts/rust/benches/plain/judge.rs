@@ -3,6 +3,7 @@
 use super::area::{find, Finding};
 use super::suboptions::{Class, Contents};
 use super::{known, Session};
+use crate::driver::calls::Cause;
 
 /// A judgement, with the whole transcript as a value; zeros where there is none.
 #[derive(Clone, Copy, PartialEq, Eq, Debug)]
@@ -13,6 +14,9 @@ pub struct Judged {
     pub role: u8,
     pub tep: u8,
     pub resumed: u8,
+    /// Of an unreadable area: where the option begins that makes it so, and its kind.
+    pub place: u8,
+    pub option: u8,
     pub transcript: [u8; 80],
 }
 
@@ -28,7 +32,17 @@ impl Judged {
             role: 0,
             tep: 0,
             resumed: 0,
+            place: 0,
+            option: 0,
             transcript: [0; 80],
+        }
+    }
+
+    pub fn plain(cause: Cause) -> Judged {
+        Judged {
+            place: cause.place,
+            option: cause.kind,
+            ..Judged::short(PLAIN, usize::from(cause.reason))
         }
     }
 
@@ -42,6 +56,8 @@ impl Judged {
             role,
             tep,
             resumed: u8::from(resumed),
+            place: 0,
+            option: 0,
             transcript,
         }
     }
@@ -54,7 +70,9 @@ pub fn judge(own: &[u8], peer: &[u8], mandatory: bool, hand: Option<&Session>) -
         return Judged::short(REFUSED, 2);
     }
     let (own, peer) = match (find(own, true), find(peer, true)) {
-        (Finding::Unreadable, _) | (_, Finding::Unreadable) => return Judged::short(PLAIN, 1),
+        (Finding::Unreadable { place, kind }, _) | (_, Finding::Unreadable { place, kind }) => {
+            return Judged::plain(Cause::unreadable(place, kind));
+        }
         (Finding::Found(own), Finding::Found(peer)) => (own, peer),
         _ => return Judged::short(PLAIN, 2),
     };

@@ -4,7 +4,7 @@ use super::area::{find, Finding};
 use super::judge::{judge, Judged, ENCRYPTED};
 use super::suboptions::{Class, Contents};
 use super::{known, Session};
-use crate::driver::calls::{PhaseNow, Reply, Unit};
+use crate::driver::calls::{Cause, PhaseNow, Reply, Unit};
 
 const DOORS: usize = 24;
 const ROWS: usize = 96;
@@ -54,7 +54,7 @@ enum Phase {
     Crossed,
     Answered,
     Open,
-    Plain(u8),
+    Plain(Cause),
 }
 
 #[derive(Clone, Copy)]
@@ -148,7 +148,7 @@ impl Door {
             Phase::Crossed => PhaseNow::Crossed,
             Phase::Answered => PhaseNow::Answered,
             Phase::Open => PhaseNow::Open,
-            Phase::Plain(reason) => PhaseNow::Plain(reason),
+            Phase::Plain(cause) => PhaseNow::Plain(cause),
         })
     }
 
@@ -165,10 +165,16 @@ impl Door {
             role,
             tep,
             resumed,
+            place,
+            option,
             ..
         } = judge(self.own.bytes(), area, self.mandatory, hand);
         if kind != ENCRYPTED {
-            return Phase::Plain(number as u8);
+            return Phase::Plain(Cause {
+                reason: number as u8,
+                place,
+                kind: option,
+            });
         }
         if let Finding::Found(option) = find(area, true) {
             self.peer = Kept::of(option);
@@ -184,11 +190,13 @@ impl Door {
     /// The phase after a second SYN, which must have the same option.
     fn again(&self, area: &[u8], same: Phase) -> Phase {
         match find(area, true) {
-            Finding::Unreadable => Phase::Plain(1),
-            Finding::Nothing => Phase::Plain(2),
+            Finding::Unreadable { place, kind } => Phase::Plain(Cause::unreadable(place, kind)),
+            Finding::Nothing => Phase::Plain(Cause::bare(2)),
             Finding::Found(option) if option == self.peer.bytes() => same,
-            Finding::Found(option) if Contents::read(option).is_none() => Phase::Plain(3),
-            Finding::Found(_) => Phase::Plain(7),
+            Finding::Found(option) if Contents::read(option).is_none() => {
+                Phase::Plain(Cause::bare(3))
+            }
+            Finding::Found(_) => Phase::Plain(Cause::bare(7)),
         }
     }
 }
@@ -217,25 +225,25 @@ impl Plain {
         door.rows().iter().position(row)
     }
 
-    /// The TEP to answer with, and the place of the record to resume; or the reason for Plain.
+    /// The TEP to answer with, and the place of the record to resume; or why it ends in Plain.
     fn choose(
         &self,
         door: &Door,
         area: &[u8],
         mandatory: bool,
         teps: &[u8],
-    ) -> Result<(Kept, u8, Option<usize>), u8> {
+    ) -> Result<(Kept, u8, Option<usize>), Cause> {
         let option = match find(area, true) {
-            Finding::Unreadable => return Err(1),
-            Finding::Nothing => return Err(2),
+            Finding::Unreadable { place, kind } => return Err(Cause::unreadable(place, kind)),
+            Finding::Nothing => return Err(Cause::bare(2)),
             Finding::Found(option) => option,
         };
-        let contents = Contents::read(option).ok_or(3)?;
+        let contents = Contents::read(option).ok_or(Cause::bare(3))?;
         if contents.b() == 1 {
-            return Err(4);
+            return Err(Cause::bare(4));
         }
         if mandatory && !contents.aware() {
-            return Err(5);
+            return Err(Cause::bare(5));
         }
         let mut fresh = None;
         for tep in teps.iter().rev() {
@@ -253,7 +261,7 @@ impl Plain {
             }
             fresh = fresh.or(Some(*tep));
         }
-        Ok((Kept::of(option), fresh.ok_or(6)?, None))
+        Ok((Kept::of(option), fresh.ok_or(Cause::bare(6))?, None))
     }
 }
 
@@ -318,9 +326,9 @@ impl Unit for Plain {
         }
         let (peer, tep, place) = match self.choose(at, area, mandatory, teps) {
             Ok(choice) => choice,
-            Err(reason) => {
-                self.doors[door].enter(Phase::Plain(reason));
-                return Reply::Plain(reason);
+            Err(cause) => {
+                self.doors[door].enter(Phase::Plain(cause));
+                return Reply::Plain(cause);
             }
         };
         let record = place.map(|place| &self.rows[usize::from(at.list[place])]);
@@ -351,8 +359,8 @@ impl Unit for Plain {
             (Phase::Crossed, true, true) => door.again(area, Phase::Open),
             (Phase::Answered, true, false) => door.again(area, Phase::Answered),
             (Phase::Crossed | Phase::Answered, false, true) => match find(area, false) {
-                Finding::Unreadable => Phase::Plain(1),
-                Finding::Nothing => Phase::Plain(2),
+                Finding::Unreadable { place, kind } => Phase::Plain(Cause::unreadable(place, kind)),
+                Finding::Nothing => Phase::Plain(Cause::bare(2)),
                 Finding::Found(_) => Phase::Open,
             },
             _ => return Reply::Refused(4),
@@ -380,7 +388,7 @@ impl Unit for Plain {
             return (Reply::Refused(1), none);
         };
         match door.phase {
-            Phase::Plain(reason) => return (Reply::Plain(reason), none),
+            Phase::Plain(cause) => return (Reply::Plain(cause), none),
             Phase::Open => {}
             _ => return (Reply::Refused(4), none),
         }

@@ -93,13 +93,15 @@ impl Pair {
             role: told.reply.role,
             tep: told.reply.tep,
             resumed: told.reply.resumed,
+            place: told.reply.place,
+            option: told.reply.option,
             transcript: told.transcript,
         };
         assert_eq!(numbers, self.plain(), "{:02x?}", self.areas());
         assert_eq!(numbers, self.fastest(), "{:02x?}", self.areas());
         let expected = match self.model() {
             model::judge::Judgement::Refused(number) => Judged::short(0, number.into()),
-            model::judge::Judgement::Plain(reason) => Judged::short(2, reason.into()),
+            model::judge::Judgement::Plain(cause) => Judged::plain(cause),
             model::judge::Judgement::Encrypted(verdict) => {
                 let (role, tep) = (verdict.role, verdict.tep);
                 Judged::encrypted(role, tep, verdict.resumed, &verdict.transcript, &[])

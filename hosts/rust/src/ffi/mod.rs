@@ -30,6 +30,8 @@ pub(crate) struct Reply {
     pub role: u8,
     pub tep: u8,
     pub resumed: u8,
+    pub place: u8,
+    pub option: u8,
 }
 
 // The layout that hosts/c/layout.c finds in the library.
@@ -38,7 +40,8 @@ const _: () = {
     assert!(size_of::<Reply>() == 16 && align_of::<Reply>() == 8);
     assert!(offset_of!(Reply, number) == 0 && offset_of!(Reply, kind) == 8);
     assert!(offset_of!(Reply, role) == 9 && offset_of!(Reply, tep) == 10);
-    assert!(offset_of!(Reply, resumed) == 11);
+    assert!(offset_of!(Reply, resumed) == 11 && offset_of!(Reply, place) == 12);
+    assert!(offset_of!(Reply, option) == 13);
 };
 
 extern "C" {

@@ -4,7 +4,7 @@ use core::mem::{align_of, offset_of, size_of};
 
 use super::{overwrite, Reply};
 
-const UNIT: usize = 8592;
+const UNIT: usize = 8640;
 const SECRET: usize = 32;
 
 /// All doors and the pool; the bytes are the library's.
@@ -32,11 +32,11 @@ pub(crate) struct ResultStep {
 // The layout that hosts/c/layout.c finds in the library.
 const _: () = {
     assert!(size_of::<Unit>() == UNIT && align_of::<Unit>() == 1);
-    assert!(size_of::<Step>() == 8608 && align_of::<Step>() == 8);
-    assert!(offset_of!(Step, unit) == 0 && offset_of!(Step, reply) == 8592);
-    assert!(size_of::<ResultStep>() == 8640 && align_of::<ResultStep>() == 8);
-    assert!(offset_of!(ResultStep, unit) == 0 && offset_of!(ResultStep, reply) == 8592);
-    assert!(offset_of!(ResultStep, secret) == 8608);
+    assert!(size_of::<Step>() == 8656 && align_of::<Step>() == 8);
+    assert!(offset_of!(Step, unit) == 0 && offset_of!(Step, reply) == 8640);
+    assert!(size_of::<ResultStep>() == 8688 && align_of::<ResultStep>() == 8);
+    assert!(offset_of!(ResultStep, unit) == 0 && offset_of!(ResultStep, reply) == 8640);
+    assert!(offset_of!(ResultStep, secret) == 8656);
 };
 
 extern "C" {

@@ -6,15 +6,29 @@ pub mod plain;
 use crate::driver::calls::*;
 use crate::driver::links::Links;
 use crate::driver::random::{calls, seed};
-use crate::driver::{frames, generations, init, judge};
+use crate::driver::{every, finder, frames, generations, init, judge, places};
 use crate::good;
 use crate::model::{Model, Wire};
+use plain::area::Finding;
 use plain::judge::{ENCRYPTED, PLAIN};
 use plain::Session;
 
 /// The calls without a unit, with one of the two judges.
 struct Plain {
     judge: fn(&[u8], &[u8], bool, Option<&Session>) -> plain::judge::Judged,
+}
+
+impl Finder for Plain {
+    fn find_status(&self, area: &[u8], syn: bool) -> Status {
+        if area.len() > 40 {
+            return Status::Refused;
+        }
+        match plain::area::find(area, syn) {
+            Finding::Found(_) => Status::Found,
+            Finding::Nothing => Status::Nothing,
+            Finding::Unreadable { place, kind } => Status::Unreadable { place, kind },
+        }
+    }
 }
 
 impl Init for Plain {
@@ -178,7 +192,11 @@ impl Judging for Plain {
         });
         let judged = (self.judge)(own, peer, mandatory, hand.as_ref());
         match judged.kind {
-            PLAIN => Ok(Judged::Plain(judged.number as u8)),
+            PLAIN => Ok(Judged::Plain(Cause {
+                reason: judged.number as u8,
+                place: judged.place,
+                kind: judged.option,
+            })),
             ENCRYPTED => Ok(Judged::Encrypted {
                 role: judged.role,
                 tep: judged.tep,
@@ -190,17 +208,22 @@ impl Judging for Plain {
     }
 }
 
-/// The unit, both judges, Init messages, frames and generations.
+/// The unit, the finder, both judges, Init messages, frames and generations.
 #[test]
 fn the_plain_rust_of_the_benchmarks() {
     let (seed, calls) = (seed(), calls() / 2);
     good(Links::new(seed, Model::new, plain::unit::Plain::new).run(calls));
     for judge in [plain::judge::judge, plain::fastest::judge] {
         good(judge::compare(seed, calls, &Wire, &Plain { judge }));
+        good(places::judge(&Wire, &Plain { judge }));
     }
+    good(places::unit(Model::new(), plain::unit::Plain::new()));
     let plain = Plain {
         judge: plain::judge::judge,
     };
+    good(finder::compare(seed, calls, &Wire, &plain));
+    good(every::areas(&Wire, &plain));
+    good(places::finder(&Wire, &plain));
     good(init::compare(seed, calls, &Wire, &plain));
     good(frames::compare(seed, calls, &Wire, &plain));
     good(generations::compare(seed, calls, &Wire, &plain));

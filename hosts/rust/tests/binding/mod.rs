@@ -2,9 +2,9 @@
 
 mod wire;
 
-use door_link::{self as link, Error, LinkUnit, Outcome, Phase, Way};
+use door_link::{self as link, Error, LinkUnit, Outcome, Phase, Reason, Way};
 
-use crate::driver::calls::{PhaseNow, Reply, Unit};
+use crate::driver::calls::{Cause, PhaseNow, Reply, Unit};
 
 pub use wire::Calls;
 
@@ -23,6 +23,13 @@ fn number(error: Error) -> u8 {
     match error {
         Error::Refused(refusal) => refusal.number(),
         Error::Unexpected => UNEXPECTED,
+    }
+}
+
+fn cause(reason: Reason) -> Cause {
+    match reason {
+        Reason::Unreadable { place, kind } => Cause::unreadable(place, kind),
+        _ => Cause::bare(reason.number()),
     }
 }
 
@@ -79,7 +86,7 @@ impl Unit for Binding {
         };
         told(self.0.answer(door, ask, out), |reply| match reply {
             link::Reply::Written(length) => Reply::Written(length),
-            link::Reply::Plain(reason) => Reply::Plain(reason.number()),
+            link::Reply::Plain(reason) => Reply::Plain(cause(reason)),
         })
     }
 
@@ -91,7 +98,7 @@ impl Unit for Binding {
                 Phase::Crossed => PhaseNow::Crossed,
                 Phase::Answered => PhaseNow::Answered,
                 Phase::Open => PhaseNow::Open,
-                Phase::Plain(reason) => PhaseNow::Plain(reason.number()),
+                Phase::Plain(reason) => PhaseNow::Plain(cause(reason)),
             })
         })
     }
@@ -120,7 +127,7 @@ impl Unit for Binding {
                 };
                 (reply, secret)
             }
-            Ok(Outcome::Plain(reason)) => (Reply::Plain(reason.number()), [0; 32]),
+            Ok(Outcome::Plain(reason)) => (Reply::Plain(cause(reason)), [0; 32]),
             Err(error) => (Reply::Refused(number(error)), [0; 32]),
         }
     }

@@ -2,7 +2,7 @@
 
 use door_link::{self as link, Enabled, Judgement};
 
-use super::number;
+use super::{cause, number};
 use crate::driver::calls::*;
 
 pub struct Calls;
@@ -13,7 +13,7 @@ impl Finder for Calls {
         match link::find_status(area, syn) {
             Ok(link::Status::Found) => Status::Found,
             Ok(link::Status::Nothing) => Status::Nothing,
-            Ok(link::Status::Unreadable) => Status::Unreadable,
+            Ok(link::Status::Unreadable { place, kind }) => Status::Unreadable { place, kind },
             Err(error) => {
                 assert_eq!(number(error), 2, "{error}: {area:02x?}");
                 Status::Refused
@@ -196,7 +196,7 @@ impl Judging for Calls {
         });
         let judged = link::judge(own, peer, mandatory, hand.as_ref()).map_err(number)?;
         Ok(match judged {
-            Judgement::Plain(reason) => Judged::Plain(reason.number()),
+            Judgement::Plain(reason) => Judged::Plain(cause(reason)),
             Judgement::Encrypted {
                 role,
                 tep,

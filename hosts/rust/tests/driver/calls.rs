@@ -5,6 +5,36 @@ use std::ops::Range;
 /// A value, or the number of the refusal.
 pub type Answer<T> = Result<T, u8>;
 
+/// Why a connection is plain TCP: the reason's number; of an unreadable area (1) where the option begins that makes it so, and its kind, else zeros.
+#[derive(Clone, Copy, PartialEq, Eq, Debug)]
+pub struct Cause {
+    pub reason: u8,
+    pub place: u8,
+    pub kind: u8,
+}
+
+impl Cause {
+    /// A reason that has no place.
+    pub const fn bare(reason: u8) -> Cause {
+        let (place, kind) = (0, 0);
+        Cause {
+            reason,
+            place,
+            kind,
+        }
+    }
+
+    /// Reason 1.
+    pub const fn unreadable(place: u8, kind: u8) -> Cause {
+        let reason = 1;
+        Cause {
+            reason,
+            place,
+            kind,
+        }
+    }
+}
+
 /// A door's phase as *receive* tells it.
 #[derive(Clone, Copy, PartialEq, Eq, Debug)]
 pub enum PhaseNow {
@@ -13,7 +43,7 @@ pub enum PhaseNow {
     Crossed,
     Answered,
     Open,
-    Plain(u8),
+    Plain(Cause),
 }
 
 /// What a call of the unit gives back, the lent buffer and the secret apart.
@@ -23,8 +53,8 @@ pub enum Reply {
     Refused(u8),
     /// *offer*, *answer*, *resend*: so many bytes were written.
     Written(usize),
-    /// *answer*, *result*: the door is Plain for this reason.
-    Plain(u8),
+    /// *answer*, *result*: the door is Plain, and why.
+    Plain(Cause),
     /// *receive*: the phase after the segment.
     Now(PhaseNow),
     /// *result* in Open; `transcript` bytes were written.
@@ -107,7 +137,11 @@ pub trait Unit {
 pub enum Status {
     Found,
     Nothing,
-    Unreadable,
+    /// Where the option begins that makes it so, and its kind.
+    Unreadable {
+        place: u8,
+        kind: u8,
+    },
     Refused,
 }
 
@@ -226,7 +260,7 @@ pub trait Rekeying {
 /// What two option areas come to.
 #[derive(Clone, PartialEq, Eq, Debug)]
 pub enum Judged {
-    Plain(u8),
+    Plain(Cause),
     Encrypted {
         role: u8,
         tep: u8,

@@ -2,7 +2,7 @@
 
 use std::collections::BTreeMap;
 
-use super::calls::Answer;
+use super::calls::{Answer, Cause};
 
 /// How often each thing must occur.
 pub const LEAST: u64 = 100;
@@ -35,8 +35,16 @@ impl Counts {
         }
     }
 
-    pub fn reason(&mut self, number: u8) {
-        self.meet(&format!("reason {number}"));
+    /// Counts the reason, and of an unreadable area the place.
+    pub fn cause(&mut self, cause: Cause) {
+        self.meet(&format!("reason {}", cause.reason));
+        if cause.reason == 1 {
+            self.place(cause.place);
+        }
+    }
+
+    pub fn place(&mut self, place: u8) {
+        self.meet(&format!("unreadable at {place:2}"));
     }
 
     pub fn of(&self, name: &str) -> u64 {
@@ -52,12 +60,22 @@ impl Counts {
 
     /// Fails if one of the named things occurred too seldom.
     pub fn demand<'a>(&self, names: impl IntoIterator<Item = &'a str>) {
-        let seldom = |name: &&str| self.of(name) < LEAST;
+        self.demand_each(LEAST, names);
+    }
+
+    fn demand_each<'a>(&self, least: u64, names: impl IntoIterator<Item = &'a str>) {
+        let seldom = |name: &&str| self.of(name) < least;
         let missing: Vec<&str> = names.into_iter().filter(seldom).collect();
         assert!(
             missing.is_empty(),
-            "met fewer than {LEAST} times: {missing:?}"
+            "met fewer than {least} times: {missing:?}"
         );
+    }
+
+    /// Every place of an area, so often.
+    pub fn demand_places(&self, least: u64) {
+        let names: Vec<String> = (0..40).map(|p| format!("unreadable at {p:2}")).collect();
+        self.demand_each(least, names.iter().map(String::as_str));
     }
 
     pub fn demand_refusals(&self, numbers: &[u8]) {

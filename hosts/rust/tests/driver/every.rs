@@ -10,14 +10,14 @@ const DOORS: usize = 24;
 const TEPS: [u8; 4] = [0x24, 0x21, 0x23, 0x22];
 
 /// Two implementations that get the same calls.
-struct Pair<R, T> {
+pub(super) struct Pair<R, T> {
     reference: R,
     tested: T,
-    counts: Counts,
+    pub counts: Counts,
 }
 
 impl<R: Unit, T: Unit> Pair<R, T> {
-    fn new(reference: R, tested: T) -> Pair<R, T> {
+    pub fn new(reference: R, tested: T) -> Pair<R, T> {
         let counts = Counts::default();
         Pair {
             reference,
@@ -26,7 +26,7 @@ impl<R: Unit, T: Unit> Pair<R, T> {
         }
     }
 
-    fn call(&mut self, call: Call) -> Result<Told, String> {
+    pub fn call(&mut self, call: Call) -> Result<Told, String> {
         let told = call.on(&mut self.reference);
         let other = call.on(&mut self.tested);
         alike(|| format!("{call:?}"), &told, &other)?;
@@ -38,13 +38,13 @@ impl<R: Unit, T: Unit> Pair<R, T> {
         Ok(told)
     }
 
-    fn result_and_close(&mut self, door: usize) -> Result<(), String> {
+    pub fn result_and_close(&mut self, door: usize) -> Result<(), String> {
         let told = self.call(Call::Result {
             door,
             out: vec![0xee; 80],
         })?;
         match told.reply {
-            Reply::Plain(reason) => self.counts.reason(reason),
+            Reply::Plain(cause) => self.counts.cause(cause),
             Reply::Open { resumed: true, .. } => self.counts.meet("resumed open"),
             Reply::Open { resumed: false, .. } => self.counts.meet("fresh open"),
             _ => {}

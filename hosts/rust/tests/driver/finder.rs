@@ -41,9 +41,12 @@ pub fn compare<R: Finder, T: Finder>(
         counts.meet(match status {
             Status::Found => "found",
             Status::Nothing => "none",
-            Status::Unreadable => "unreadable",
+            Status::Unreadable { .. } => "unreadable",
             Status::Refused => "refusal  2",
         });
+        if let Status::Unreadable { place, .. } = status {
+            counts.place(place);
+        }
     }
     Ok(counts)
 }

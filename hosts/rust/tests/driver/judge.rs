@@ -3,7 +3,7 @@
 use super::alike;
 use super::calls::{Judged, Judging, Record};
 use super::counts::Counts;
-use super::options::{damaged, made_up, wrap, Quote};
+use super::options::{broken, damaged, made_up, wrap, Quote};
 use super::random::Random;
 use super::seen::halves;
 
@@ -98,12 +98,16 @@ pub fn real(random: &mut Random) -> Ask {
     }
 }
 
-/// Something happened to one of the areas, or to the record in hand.
+/// Something happened to one of the areas, to both, or to the record in hand.
 pub fn altered(random: &mut Random) -> Ask {
     let mut ask = real(random);
     let quotes: Vec<Quote> = ask.in_hand.iter().flat_map(quotes).collect();
-    match random.below(8) {
+    match random.below(9) {
         0 => ask.own = damaged(random, &ask.own, &quotes),
+        8 => {
+            ask.own = broken(random, &ask.own);
+            ask.peer = damaged(random, &ask.peer, &quotes);
+        }
         1 => {
             if let Some(record) = &mut ask.in_hand {
                 match random.below(3) {
@@ -173,7 +177,7 @@ pub fn compare<R: Judging, T: Judging>(
         alike(|| format!("{ask:02x?}"), &answer, &again)?;
         match answer {
             Err(number) => counts.refusal(number),
-            Ok(Judged::Plain(reason)) => counts.reason(reason),
+            Ok(Judged::Plain(cause)) => counts.cause(cause),
             Ok(Judged::Encrypted {
                 role, tep, resumed, ..
             }) => {

@@ -7,7 +7,7 @@ use super::alike;
 use super::calls::{PhaseNow, Record, Reply, Unit};
 use super::counts::Counts;
 use super::list::{Call, Told};
-use super::options::{bare, damaged, made_up, wrap, Quote};
+use super::options::{bare, broken, damaged, made_up, wrap, Quote};
 use super::random::Random;
 use super::seen::{halves, unseen, Seen};
 
@@ -323,8 +323,9 @@ impl<R: Unit, T: Unit> Links<R, T> {
         let quotes = self.quotes(to);
         let chance = self.random.below(100);
         match written {
-            Some(option) if chance < 80 => wrap(&mut self.random, option),
-            Some(option) if chance < 90 => damaged(&mut self.random, option, &quotes),
+            Some(option) if chance < 75 => wrap(&mut self.random, option),
+            Some(option) if chance < 85 => damaged(&mut self.random, option, &quotes),
+            Some(option) if chance < 90 => broken(&mut self.random, option),
             None if chance < 70 => bare(&mut self.random),
             _ => {
                 let own = self.at(to).own.clone();

@@ -115,10 +115,38 @@ pub fn made_up(random: &mut Random, b: u8, quotes: &[Quote]) -> Vec<u8> {
     option
 }
 
+/// An area that is unreadable at a random place: whole options before it, this one among them where it is whole and has room, and there an option
+/// without its length byte, or with one that is below 2 or beyond the end.
+pub fn broken(random: &mut Random, option: &[u8]) -> Vec<u8> {
+    let mut whole: Vec<&[u8]> = vec![&[1], &[1, 1], &[2, 4, 5, 0xb4], &[4, 2], &[3, 3, 7]];
+    if option.get(1).map(|length| usize::from(*length)) == Some(option.len()) {
+        whole.extend([option, option]);
+    }
+    let place = random.below(40);
+    let mut area = Vec::new();
+    while area.len() < place {
+        let piece = random.pick(&whole);
+        if area.len() + piece.len() <= place {
+            area.extend(piece);
+        } else {
+            area.push(1);
+        }
+    }
+    let any = random.from(2, 255) as u8;
+    area.push(random.pick(&[2, 3, 4, 8, 0x45, 0x45, any]));
+    let behind = random.below(40 - place);
+    if behind > 0 {
+        let longer = random.from(behind + 2, 255) as u8;
+        area.push(random.pick(&[0, 1, behind as u8 + 2, longer]));
+        area.extend(random.bytes(behind - 1));
+    }
+    area
+}
+
 /// An area in which something happened to this option.
 pub fn damaged(random: &mut Random, option: &[u8], quotes: &[Quote]) -> Vec<u8> {
     let mut option = option.to_vec();
-    match random.below(14) {
+    match random.below(16) {
         0 => return bare(random),
         1 => {
             let mut area = wrap(random, &option);
@@ -170,6 +198,7 @@ pub fn damaged(random: &mut Random, option: &[u8], quotes: &[Quote]) -> Vec<u8> 
             let place = random.below(option.len());
             option.truncate(place);
         }
+        12 | 13 => return broken(random, &option),
         _ => {
             let b = random.below(2) as u8;
             option = made_up(random, b, quotes);

@@ -2,7 +2,7 @@
 
 use std::collections::BTreeMap;
 
-use super::calls::{PhaseNow, Record, Reply};
+use super::calls::{Cause, PhaseNow, Record, Reply};
 use super::counts::Counts;
 use super::list::{Call, Told};
 use super::options::Quote;
@@ -45,6 +45,14 @@ pub fn halves(record: &Record) -> (Vec<u8>, Vec<u8>) {
     match record.role {
         0 => (first.to_vec(), second.to_vec()),
         _ => (second.to_vec(), first.to_vec()),
+    }
+}
+
+/// Whether a cause can be about this area: of an unreadable one, the place is in it and has the kind; of any other, both are 0.
+fn is_about(cause: Cause, area: &[u8]) -> bool {
+    match cause.reason {
+        1 => cause.kind > 1 && area.get(usize::from(cause.place)) == Some(&cause.kind),
+        reason => cause == Cause::bare(reason),
     }
 }
 
@@ -108,16 +116,31 @@ impl Seen {
                 self.take(place);
                 self.enter(PhaseNow::Answered);
             }
-            (Call::Answer { .. }, Reply::Plain(reason)) => {
-                counts.reason(reason);
+            (Call::Answer { area, .. }, Reply::Plain(cause)) => {
+                if !is_about(cause, area) {
+                    return Err(format!("another area's cause: {cause:?} {call:?}"));
+                }
+                counts.cause(cause);
                 counts.meet("answer ending in Plain");
-                self.enter(PhaseNow::Plain(reason));
+                self.enter(PhaseNow::Plain(cause));
             }
-            (Call::Receive { .. }, Reply::Now(phase)) if phase != self.phase => {
-                if let PhaseNow::Plain(reason) = phase {
-                    counts.reason(reason);
+            (Call::Receive { area, .. }, Reply::Now(phase)) if phase != self.phase => {
+                if let PhaseNow::Plain(Cause { reason: 1, .. }) = self.phase {
+                    return Err(format!("was {:?}, is {phase:?}: {call:?}", self.phase));
+                }
+                if let PhaseNow::Plain(cause) = phase {
+                    if !is_about(cause, area) {
+                        return Err(format!("another area's cause: {cause:?} {call:?}"));
+                    }
+                    counts.cause(cause);
                 }
                 self.enter(phase);
+            }
+            (Call::Result { .. }, Reply::Plain(cause @ Cause { reason: 1, .. })) => {
+                if self.phase != PhaseNow::Plain(cause) {
+                    return Err(format!("was {:?}, is {cause:?}: {call:?}", self.phase));
+                }
+                counts.meet("result of an unreadable area");
             }
             (
                 Call::Result { .. },

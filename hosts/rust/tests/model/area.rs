@@ -9,8 +9,14 @@ pub const ENO: u8 = 0x45;
 /// The most bytes of an option area.
 pub const MOST: usize = 40;
 
-/// The options of an area, each with its kind and its place, or none if one of them does not fit.
-fn options(area: &[u8]) -> Option<Vec<(u8, Range<usize>)>> {
+/// The first option that does not fit: its kind, and where it begins.
+struct Misfit {
+    kind: u8,
+    at: usize,
+}
+
+/// The options of an area, each with its kind and its place.
+fn options(area: &[u8]) -> Result<Vec<(u8, Range<usize>)>, Misfit> {
     let mut list = Vec::new();
     let mut rest = 0..area.len();
     while let Some(at) = rest.next() {
@@ -18,23 +24,23 @@ fn options(area: &[u8]) -> Option<Vec<(u8, Range<usize>)>> {
             0 => break,
             1 => continue,
             kind => {
-                let length = usize::from(*area.get(at + 1)?);
+                let length = area.get(at + 1).map_or(0, |length| usize::from(*length));
                 if length < 2 || at + length > area.len() {
-                    return None;
+                    return Err(Misfit { kind, at });
                 }
                 list.push((kind, at..at + length));
                 rest = at + length..area.len();
             }
         }
     }
-    Some(list)
+    Ok(list)
 }
 
 /// The finder's finding.
 #[derive(Clone, PartialEq, Eq, Debug)]
 pub enum Finding {
     Refused,
-    Unreadable,
+    Unreadable { place: u8, kind: u8 },
     Nothing,
     Found(Range<usize>),
 }
@@ -43,8 +49,12 @@ pub fn find(area: &[u8], syn: bool) -> Finding {
     if area.len() > MOST {
         return Finding::Refused;
     }
-    let Some(options) = options(area) else {
-        return Finding::Unreadable;
+    let options = match options(area) {
+        Ok(options) => options,
+        Err(Misfit { kind, at }) => {
+            let place = u8::try_from(at).expect("an area has at most 40 bytes");
+            return Finding::Unreadable { place, kind };
+        }
     };
     let mut eno = options.into_iter().filter(|(kind, _)| *kind == ENO);
     match (eno.next(), eno.next()) {
@@ -64,7 +74,7 @@ pub fn find_option(area: &[u8], syn: bool) -> Range<usize> {
 pub fn find_status(area: &[u8], syn: bool) -> Status {
     match find(area, syn) {
         Finding::Refused => Status::Refused,
-        Finding::Unreadable => Status::Unreadable,
+        Finding::Unreadable { place, kind } => Status::Unreadable { place, kind },
         Finding::Nothing => Status::Nothing,
         Finding::Found(_) => Status::Found,
     }
@@ -91,18 +101,27 @@ mod tests {
 
     #[test]
     fn unreadable_as_a_whole() {
-        for area in [
-            "45 03 23 02",
-            "45 01",
-            "45 00",
-            "45",
-            "45 02 45 02 02 01",
-            "02 05 00 00",
+        for (area, place, kind) in [
+            ("01 01 02 04 05 b4 08", 6, 0x08),
+            ("45 03 23 02", 3, 0x02),
+            ("45 02 45 02 02 01", 4, 0x02),
+            ("45 02 02", 2, 0x02),
+            ("45 01", 0, 0x45),
+            ("45 00", 0, 0x45),
+            ("45", 0, 0x45),
+            ("02 05 00 00", 0, 0x02),
+            ("02 02 ff 00 02", 2, 0xff),
+            ("02", 0, 0x02),
+            ("01 03 01", 1, 0x03),
+            ("01 08 01 00", 1, 0x08),
         ] {
-            assert_eq!(syn(area), Finding::Unreadable, "{area}");
-            assert_eq!(other(area), Finding::Unreadable, "{area}");
+            let unreadable = Finding::Unreadable { place, kind };
+            assert_eq!(syn(area), unreadable, "{area}");
+            assert_eq!(other(area), unreadable, "{area}");
         }
-        assert_eq!(other("45 02 02"), Finding::Unreadable);
+        let last = [&[1; 39][..], &[ENO]].concat();
+        let (place, kind) = (39, ENO);
+        assert_eq!(find(&last, true), Finding::Unreadable { place, kind });
     }
 
     #[test]

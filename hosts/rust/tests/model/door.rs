@@ -5,7 +5,7 @@ use super::judge::{judge, Judgement, Verdict};
 use super::records::{expected, known, sent};
 use super::suboptions::{read, Class, Contents};
 use super::writer::{option, Resumption};
-use crate::driver::calls::{PhaseNow, Record, Reply};
+use crate::driver::calls::{Cause, PhaseNow, Record, Reply};
 
 #[derive(Clone, PartialEq, Eq, Debug)]
 pub enum Phase {
@@ -25,7 +25,7 @@ pub enum Phase {
         verdict: Verdict,
     },
     Open(Verdict),
-    Plain(u8),
+    Plain(Cause),
 }
 
 #[derive(Clone, PartialEq, Eq, Debug)]
@@ -81,7 +81,7 @@ impl Door {
             Phase::Crossed { .. } => PhaseNow::Crossed,
             Phase::Answered { .. } => PhaseNow::Answered,
             Phase::Open(_) => PhaseNow::Open,
-            Phase::Plain(reason) => PhaseNow::Plain(*reason),
+            Phase::Plain(cause) => PhaseNow::Plain(*cause),
         }
     }
 
@@ -149,9 +149,9 @@ impl Door {
         }
         let (peer, tep, taken) = match choose(held, &ask) {
             Ok(choice) => choice,
-            Err(reason) => {
-                self.enter(Phase::Plain(reason));
-                return (Reply::Plain(reason), None);
+            Err(cause) => {
+                self.enter(Phase::Plain(cause));
+                return (Reply::Plain(cause), None);
             }
         };
         let own = match taken.map(|place| &held[place]) {
@@ -190,7 +190,7 @@ impl Door {
             (Phase::Offered { own, mandatory }, true, _) => {
                 match judge(mandatory, self.in_hand.as_ref(), &own, area) {
                     Judgement::Refused(number) => return Reply::Refused(number),
-                    Judgement::Plain(reason) => Phase::Plain(reason),
+                    Judgement::Plain(cause) => Phase::Plain(cause),
                     Judgement::Encrypted(verdict) if ack => Phase::Open(verdict),
                     Judgement::Encrypted(verdict) => {
                         let Finding::Found(place) = find(area, true) else {
@@ -202,18 +202,20 @@ impl Door {
                 }
             }
             (Phase::Crossed { peer, verdict, .. }, true, true) => match again(&peer, area) {
-                Some(reason) => Phase::Plain(reason),
+                Some(cause) => Phase::Plain(cause),
                 None => Phase::Open(verdict),
             },
             (Phase::Answered { own, peer, verdict }, true, false) => match again(&peer, area) {
-                Some(reason) => Phase::Plain(reason),
+                Some(cause) => Phase::Plain(cause),
                 None => Phase::Answered { own, peer, verdict },
             },
             (Phase::Answered { verdict, .. } | Phase::Crossed { verdict, .. }, false, true) => {
                 match find(area, false) {
-                    Finding::Unreadable => Phase::Plain(1),
+                    Finding::Unreadable { place, kind } => {
+                        Phase::Plain(Cause::unreadable(place, kind))
+                    }
                     Finding::Found(_) => Phase::Open(verdict),
-                    _ => Phase::Plain(2),
+                    _ => Phase::Plain(Cause::bare(2)),
                 }
             }
             _ => return Reply::Refused(4),
@@ -238,7 +240,7 @@ impl Door {
         let none = [0; 32];
         let verdict = match &self.phase {
             Phase::Open(verdict) => verdict,
-            Phase::Plain(reason) => return (Reply::Plain(*reason), none),
+            Phase::Plain(cause) => return (Reply::Plain(*cause), none),
             _ => return (Reply::Refused(4), none),
         };
         let Some(transcript) = write(&verdict.transcript, out) else {
@@ -263,19 +265,19 @@ impl Door {
     }
 }
 
-/// A's option, the TEP to answer with, and the place of the record to resume; or the reason for Plain.
-fn choose(held: &[Record], ask: &Answer) -> Result<(Vec<u8>, u8, Option<usize>), u8> {
+/// A's option, the TEP to answer with, and the place of the record to resume; or why it ends in Plain.
+fn choose(held: &[Record], ask: &Answer) -> Result<(Vec<u8>, u8, Option<usize>), Cause> {
     let peer = match find(ask.area, true) {
-        Finding::Unreadable => return Err(1),
+        Finding::Unreadable { place, kind } => return Err(Cause::unreadable(place, kind)),
         Finding::Found(place) => ask.area[place].to_vec(),
-        _ => return Err(2),
+        _ => return Err(Cause::bare(2)),
     };
-    let contents = read(&peer).ok_or(3)?;
+    let contents = read(&peer).ok_or(Cause::bare(3))?;
     if contents.b() == 1 {
-        return Err(4);
+        return Err(Cause::bare(4));
     }
     if ask.mandatory && !contents.aware() {
-        return Err(5);
+        return Err(Cause::bare(5));
     }
     let good = |tep: &u8| {
         contents
@@ -291,8 +293,8 @@ fn choose(held: &[Record], ask: &Answer) -> Result<(Vec<u8>, u8, Option<usize>),
     if let Some((tep, place)) = resumed {
         return Ok((peer, tep, Some(place)));
     }
-    let last = ask.teps.iter().rev().find(|tep| good(tep)).ok_or(6)?;
-    Ok((peer, *last, None))
+    let last = ask.teps.iter().rev().find(|tep| good(tep));
+    Ok((peer, *last.ok_or(Cause::bare(6))?, None))
 }
 
 /// The oldest held record of a TEP that expects the half that A sent.
@@ -305,17 +307,17 @@ fn fitting(held: &[Record], contents: &Contents, tep: u8) -> Option<usize> {
 }
 
 /// Why a second SYN ends in Plain, if it does: it must carry the same option.
-fn again(peer: &[u8], area: &[u8]) -> Option<u8> {
+fn again(peer: &[u8], area: &[u8]) -> Option<Cause> {
     let place = match find(area, true) {
-        Finding::Unreadable => return Some(1),
+        Finding::Unreadable { place, kind } => return Some(Cause::unreadable(place, kind)),
         Finding::Found(place) => place,
-        _ => return Some(2),
+        _ => return Some(Cause::bare(2)),
     };
     if read(&area[place.clone()]).is_none() {
-        return Some(3);
+        return Some(Cause::bare(3));
     }
     if &area[place] != peer {
-        return Some(7);
+        return Some(Cause::bare(7));
     }
     None
 }
@@ -387,9 +389,9 @@ mod tests {
             self.take(told, &out)
         }
 
-        fn plain(&mut self, area: &str, mandatory: bool, teps: &str) -> u8 {
+        fn plain(&mut self, area: &str, mandatory: bool, teps: &str) -> PhaseNow {
             match self.ask(area, mandatory, teps, &mut []) {
-                (Reply::Plain(reason), None) => reason,
+                (Reply::Plain(cause), None) => PhaseNow::Plain(cause),
                 other => panic!("{other:?}"),
             }
         }
@@ -438,6 +440,14 @@ mod tests {
         End::new(Vec::new())
     }
 
+    fn plain(reason: u8) -> PhaseNow {
+        PhaseNow::Plain(Cause::bare(reason))
+    }
+
+    fn unreadable(place: u8, kind: u8) -> PhaseNow {
+        PhaseNow::Plain(Cause::unreadable(place, kind))
+    }
+
     #[test]
     fn figure_9() {
         let transcript = hex("45 04 21 23 45 04 01 23");
@@ -455,13 +465,13 @@ mod tests {
     fn figures_10_and_11() {
         let mut a = end();
         a.offer(0, "21 23", false);
-        assert_eq!(a.syn_ack(""), PhaseNow::Plain(2));
-        assert_eq!(end().plain("45 04 21 23", false, "22 24"), 6);
-        assert_eq!(end().plain("45 04 21 23", true, "23"), 5);
-        assert_eq!(end().plain("02 04 05 b4", false, "23"), 2);
+        assert_eq!(a.syn_ack(""), plain(2));
+        assert_eq!(end().plain("45 04 21 23", false, "22 24"), plain(6));
+        assert_eq!(end().plain("45 04 21 23", true, "23"), plain(5));
+        assert_eq!(end().plain("02 04 05 b4", false, "23"), plain(2));
         let mut b = end();
         assert_eq!(b.answer("45 04 21 23", "21"), hex("45 04 01 21"));
-        assert_eq!(b.ack(""), PhaseNow::Plain(2));
+        assert_eq!(b.ack(""), plain(2));
     }
 
     #[test]
@@ -487,14 +497,14 @@ mod tests {
     #[test]
     fn what_a_syn_ack_comes_to() {
         for (area, phase) in [
-            ("45 03 23", PhaseNow::Plain(4)),
-            ("45 03 01", PhaseNow::Plain(6)),
-            ("45 02", PhaseNow::Plain(4)),
-            ("45 04 01 23 45 04 01 23", PhaseNow::Plain(2)),
+            ("45 03 23", plain(4)),
+            ("45 03 01", plain(6)),
+            ("45 02", plain(4)),
+            ("45 04 01 23 45 04 01 23", plain(2)),
             ("45 05 01 00 23", PhaseNow::Open),
-            ("45 05 01 81 a3", PhaseNow::Plain(3)),
-            ("45 05 01 80 9f", PhaseNow::Plain(3)),
-            ("45 03 23 02", PhaseNow::Plain(1)),
+            ("45 05 01 81 a3", plain(3)),
+            ("45 05 01 80 9f", plain(3)),
+            ("45 03 23 02", unreadable(3, 2)),
         ] {
             let mut a = end();
             a.offer(0, "23", false);
@@ -509,10 +519,10 @@ mod tests {
 
     #[test]
     fn answers_that_end_plain() {
-        assert_eq!(end().plain("45 04 01 23", false, "23"), 4);
-        assert_eq!(end().plain("45 02", false, "23"), 6);
-        assert_eq!(end().plain("45 03 80", false, "23"), 3);
-        assert_eq!(end().plain("45 03 23 02", false, "23"), 1);
+        assert_eq!(end().plain("45 04 01 23", false, "23"), plain(4));
+        assert_eq!(end().plain("45 02", false, "23"), plain(6));
+        assert_eq!(end().plain("45 03 80", false, "23"), plain(3));
+        assert_eq!(end().plain("45 03 23 02", false, "23"), unreadable(3, 2));
         let mut b = end();
         b.answer("45 04 21 23", "23");
         assert_eq!(b.ack("45 04 01 23 45 04 01 23"), PhaseNow::Open);
@@ -525,7 +535,7 @@ mod tests {
     fn the_bench_rows_on_r() {
         for (area, phase) in [
             (format!("45 0d 01 a3 {H1}"), PhaseNow::Open),
-            (format!("45 0d 01 a3 {H0}"), PhaseNow::Plain(6)),
+            (format!("45 0d 01 a3 {H0}"), plain(6)),
             ("45 04 01 23".to_string(), PhaseNow::Open),
         ] {
             let mut a = End::new(vec![record_r()]);
@@ -597,16 +607,54 @@ mod tests {
     fn second_syns() {
         for (area, phase) in [
             ("01 45 04 21 23", PhaseNow::Answered),
-            ("45 04 23 21", PhaseNow::Plain(7)),
-            ("45 05 01 21 23", PhaseNow::Plain(7)),
-            ("45 03 80", PhaseNow::Plain(3)),
-            ("45 04 21 23 45 04 21 23", PhaseNow::Plain(2)),
-            ("", PhaseNow::Plain(2)),
-            ("45 04 21 23 02", PhaseNow::Plain(1)),
+            ("45 04 23 21", plain(7)),
+            ("45 05 01 21 23", plain(7)),
+            ("45 03 80", plain(3)),
+            ("45 04 21 23 45 04 21 23", plain(2)),
+            ("", plain(2)),
+            ("45 04 21 23 02", unreadable(4, 2)),
         ] {
             let mut b = end();
             b.answer("45 04 21 23", "23");
             assert_eq!(b.syn(area), phase, "{area}");
+        }
+    }
+
+    #[test]
+    fn where_an_area_broke_is_told_again() {
+        let area = "01 01 02 04 05 b4 08";
+        let answered = || {
+            let mut b = end();
+            b.answer("45 03 23", "23");
+            b
+        };
+        let offered = || {
+            let mut a = end();
+            a.offer(0, "23", false);
+            a
+        };
+        let crossed = || {
+            let mut a = offered();
+            a.syn("45 04 01 23");
+            a
+        };
+        type Call = fn(&mut End, &str) -> PhaseNow;
+        let ends: [(End, Call); 7] = [
+            (end(), |end, area| end.plain(area, false, "23")),
+            (offered(), End::syn),
+            (offered(), End::syn_ack),
+            (crossed(), End::syn_ack),
+            (crossed(), End::ack),
+            (answered(), End::syn),
+            (answered(), End::ack),
+        ];
+        for (mut end, call) in ends {
+            assert_eq!(call(&mut end, area), unreadable(6, 8));
+            for again in ["", "45 03 23 02"] {
+                assert_eq!(end.syn(again), unreadable(6, 8));
+                let told = (Reply::Plain(Cause::unreadable(6, 8)), [0; 32]);
+                assert_eq!(end.door.result(&mut []), told);
+            }
         }
     }
 
@@ -624,15 +672,15 @@ mod tests {
         let mut open = end();
         open.offer(0, "23", false);
         open.syn_ack("45 04 01 23");
-        let mut plain = end();
-        plain.plain("", false, "23");
+        let mut unencrypted = end();
+        unencrypted.plain("", false, "23");
         for (end, out_of_turn) in [
             (end(), [true; 4]),
             (offered, [false, false, true, true]),
             (crossed, [true, false, false, true]),
             (answered, [false, true, false, true]),
             (open, [false; 4]),
-            (plain, [false; 4]),
+            (unencrypted, [false; 4]),
         ] {
             for ((syn, ack), refused) in kinds.into_iter().zip(out_of_turn) {
                 let mut door = end.door.clone();

@@ -3,7 +3,7 @@
 use super::area::{find, Finding};
 use super::records::{expected, known, sent};
 use super::suboptions::{read, Class};
-use crate::driver::calls::Record;
+use crate::driver::calls::{Cause, Record};
 
 /// An encrypted connection, as this end sees it.
 #[derive(Clone, PartialEq, Eq, Debug)]
@@ -14,11 +14,11 @@ pub struct Verdict {
     pub transcript: Vec<u8>,
 }
 
-/// A judgement: refused, plain TCP for a reason, or a verdict.
+/// A judgement: refused, plain TCP and why, or a verdict.
 #[derive(Clone, PartialEq, Eq, Debug)]
 pub enum Judgement {
     Refused(u8),
-    Plain(u8),
+    Plain(Cause),
     Encrypted(Verdict),
 }
 
@@ -28,21 +28,24 @@ pub fn judge(mandatory: bool, in_hand: Option<&Record>, own: &[u8], peer: &[u8])
     if findings.contains(&Finding::Refused) {
         return Judgement::Refused(2);
     }
-    if findings.contains(&Finding::Unreadable) {
-        return Judgement::Plain(1);
+    // The own area before the other side's.
+    for finding in &findings {
+        if let Finding::Unreadable { place, kind } = finding {
+            return Judgement::Plain(Cause::unreadable(*place, *kind));
+        }
     }
     let [Finding::Found(own_place), Finding::Found(peer_place)] = findings else {
-        return Judgement::Plain(2);
+        return Judgement::Plain(Cause::bare(2));
     };
     let (own_option, peer_option) = (&own[own_place], &peer[peer_place]);
     let (Some(own), Some(peer)) = (read(own_option), read(peer_option)) else {
-        return Judgement::Plain(3);
+        return Judgement::Plain(Cause::bare(3));
     };
     if own.b() == peer.b() {
-        return Judgement::Plain(4);
+        return Judgement::Plain(Cause::bare(4));
     }
     if mandatory && !peer.aware() {
-        return Judgement::Plain(5);
+        return Judgement::Plain(Cause::bare(5));
     }
     let (a, b, a_option, b_option) = if own.b() == 0 {
         (&own, &peer, own_option, peer_option)
@@ -75,7 +78,7 @@ pub fn judge(mandatory: bool, in_hand: Option<&Record>, own: &[u8], peer: &[u8])
         }
     }
     match last {
-        None => Judgement::Plain(6),
+        None => Judgement::Plain(Cause::bare(6)),
         Some((tep, resumed)) => Judgement::Encrypted(Verdict {
             role: own.b(),
             tep,
@@ -95,7 +98,7 @@ mod tests {
     /// (role, TEP byte, resumed) or the reason.
     fn comes_to(own: &str, peer: &str, record: Option<&Record>) -> Result<(u8, u8, bool), u8> {
         match judge(false, record, &hex(own), &hex(peer)) {
-            Judgement::Plain(reason) => Err(reason),
+            Judgement::Plain(cause) => Err(cause.reason),
             Judgement::Encrypted(v) => Ok((v.role, v.tep, v.resumed)),
             Judgement::Refused(n) => panic!("refused with {n}"),
         }
@@ -152,13 +155,31 @@ mod tests {
         let own = hex("45 04 02 23");
         assert_eq!(
             judge(true, None, &own, &hex("45 04 01 23")),
-            Judgement::Plain(5)
+            Judgement::Plain(Cause::bare(5))
         );
         assert_eq!(
             judge(true, None, &own, &hex("45 03 23")),
-            Judgement::Plain(4)
+            Judgement::Plain(Cause::bare(4))
         );
         assert_eq!(judge(false, None, &own, &[1; 41]), Judgement::Refused(2));
+    }
+
+    #[test]
+    fn the_own_area_is_blamed_first() {
+        for (own, peer, place, kind) in [
+            ("02", "01 03 01", 0, 0x02),
+            ("45 03 23", "01 03 01", 1, 0x03),
+            ("", "01 03 01", 1, 0x03),
+            ("45 03 80", "01 03 01", 1, 0x03),
+            ("01 01 02 04 05 b4 08", "", 6, 0x08),
+            ("45 03 23 02", "45 04 01 23", 3, 0x02),
+        ] {
+            let expected = Judgement::Plain(Cause::unreadable(place, kind));
+            let judged = judge(false, None, &hex(own), &hex(peer));
+            assert_eq!(judged, expected, "{own}, {peer}");
+        }
+        let refused = judge(false, None, &hex("02"), &[1; 41]);
+        assert_eq!(refused, Judgement::Refused(2));
     }
 
     #[test]

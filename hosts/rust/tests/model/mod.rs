@@ -131,7 +131,7 @@ impl Judging for Wire {
     ) -> Answer<Judged> {
         match judge::judge(mandatory, in_hand, own, peer) {
             judge::Judgement::Refused(number) => Err(number),
-            judge::Judgement::Plain(reason) => Ok(Judged::Plain(reason)),
+            judge::Judgement::Plain(cause) => Ok(Judged::Plain(cause)),
             judge::Judgement::Encrypted(verdict) => Ok(Judged::Encrypted {
                 role: verdict.role,
                 tep: verdict.tep,

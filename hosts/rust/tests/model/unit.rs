@@ -219,7 +219,7 @@ impl Unit for Model {
 
 mod tests {
     use super::*;
-    use crate::driver::calls::PhaseNow;
+    use crate::driver::calls::{Cause, PhaseNow};
     use crate::model::{hex, record_r};
 
     fn store(unit: &mut Model, door: usize, record: &Record) -> Reply {
@@ -390,7 +390,7 @@ mod tests {
         );
         assert_eq!(
             unit.answer(0, &[], false, false, &[0x23], &[], &mut []),
-            Reply::Plain(2)
+            Reply::Plain(Cause::bare(2))
         );
         assert_eq!(
             unit.offer(0, 0, false, false, &[0x23], false, &[], &mut []),
@@ -400,7 +400,7 @@ mod tests {
             unit.offer(0, 0, false, false, &[0x25], false, &[], &mut []),
             Reply::Refused(3)
         );
-        assert_eq!(unit.result(0, &mut []).0, Reply::Plain(2));
+        assert_eq!(unit.result(0, &mut []).0, Reply::Plain(Cause::bare(2)));
         assert_eq!(unit.resend(0, out), Reply::Refused(4));
         unit.close(0);
         assert_eq!(unit.result(0, out).0, Reply::Refused(4));

@@ -2,7 +2,7 @@
 
 use crate::driver::calls::*;
 use crate::driver::counts::Counts;
-use crate::driver::{frames, generations, init, judge};
+use crate::driver::{finder, frames, generations, init, judge};
 use crate::model::Wire;
 
 /// The one thing; the model does the rest.
@@ -56,6 +56,12 @@ enum Fault {
     SwappedHalves,
     /// No look at the other side's a.
     NotMandatory,
+    /// The other side's area before the own one.
+    PeerBlamedFirst,
+    /// The place of an unreadable area's first option, whole or not.
+    PlaceOfFirst,
+    /// Its kind.
+    KindOfFirst,
 }
 
 struct Wrong(Fault);
@@ -93,6 +99,21 @@ impl Wrong {
             Ok(read) if self.is(Fault::NothingBehind) && length(&read) < bytes.len() => Err(8),
             _ => answer,
         }
+    }
+}
+
+impl Finder for Wrong {
+    fn find_status(&self, area: &[u8], syn: bool) -> Status {
+        let mut status = Wire.find_status(area, syn);
+        if let Status::Unreadable { place, kind } = &mut status {
+            let first = area.iter().position(|byte| *byte > 1).unwrap_or(0);
+            match self.0 {
+                Fault::PlaceOfFirst => *place = first as u8,
+                Fault::KindOfFirst => *kind = area[first],
+                _ => {}
+            }
+        }
+        status
     }
 }
 
@@ -267,6 +288,11 @@ impl Judging for Wrong {
             record.role = u8::from(record.role == 0);
         }
         let mut judged = Wire.judge(own, peer, mandatory, hand.as_ref())?;
+        if self.is(Fault::PeerBlamedFirst) && matches!(judged, Judged::Plain(_)) {
+            if let Status::Unreadable { place, kind } = Wire.find_status(peer, true) {
+                return Ok(Judged::Plain(Cause::unreadable(place, kind)));
+            }
+        }
         if let Judged::Encrypted {
             role,
             tep,
@@ -303,6 +329,12 @@ macro_rules! against {
             Some(fault) => $compare(1, 20_000, &Wire, &Wrong(fault)),
         }
     };
+}
+
+#[test]
+fn wrong_findings_are_seen() {
+    let faults = [Fault::PlaceOfFirst, Fault::KindOfFirst];
+    each_is_seen(&faults, against!(finder::compare));
 }
 
 #[test]
@@ -353,6 +385,7 @@ fn wrong_judgements_are_seen() {
         Fault::NoV,
         Fault::SwappedHalves,
         Fault::NotMandatory,
+        Fault::PeerBlamedFirst,
     ];
     each_is_seen(&faults, against!(judge::compare));
 }
