@@ -4,11 +4,13 @@ use mathlib.Core.Path.{_≡_, refl, sym, _∙_, ap}
 use mathlib.Core.List.{List, [], _∷_, _++_}
 use mathlib.Core.Bool.{Bool, true, false, cond, _&&_, true≢false, false≢true}
 use mathlib.Core.Option.{Option, none, some}
+use mathlib.Core.Logic.{inl, inr}
 use native.Mathlib.Omega.{arith}
 use borrow.Author.Tests.{ltb-true, ltb-false}
 use lib.Dec.{ltb}
 use Rattle.refusals.specs.Rows.{refusal}
 use Rattle.generation.specs.Steps.{Reply, refused, sent, received, Outcome, Ask, send, initiate, receive, first, mostGeneration, isAbove, sending, raised, following, receiving, unless, wouldPass, outcome}
+use Rattle.generation.specs.LocalStep.{follows}
 use Rattle.generation.specs.declared.GenerationRecord.{GenerationRecord}
 
 -- the record after a list of steps
@@ -204,18 +206,18 @@ remote-counted g (k ∷ l) =
 
 -- local is never below either
 within-step : (g : GenerationRecord) (k : Ask) (o : Outcome) → Did g k o → Within g → Within (o .next)
-unfolding following
 within-step g k _ (was-refused n) w = w
 within-step g k _ (was-sent h unfinished same-last same-remote above most) w =
     sending-law (λ o. Within (o .next)) h (finOf k)
     (λ e. record { remote-within = omega arith; last-within = omega arith; most = most (w .most) })
     (λ e. record { remote-within = omega arith; last-within = omega arith; most = most (w .most) })
 within-step g k _ (was-received rekey is most) w =
-    receiving-law (λ o. Within (o .next)) g rekey (λ e. go (ltb (g .local) (g .remote + 1)) refl (most e)) (λ e. w)
-  where
-    go : (b : Bool) → ltb (g .local) (g .remote + 1) ≡ b → g .remote + 1 ≤ mostGeneration → Within (record { local = cond b (g .remote + 1) (g .local); remote = g .remote + 1; last = g .last; fin = g .fin })
-    go true e m = let h : g .local < g .remote + 1 = ltb-true _ _ e in record { remote-within = omega arith; last-within = omega (arith, w .last-within); most = m }
-    go false e m = record { remote-within = ltb-false _ _ e; last-within = w .last-within; most = w .most }
+    receiving-law (λ o. Within (o .next)) g rekey
+    (λ e. elim (follows (g .local) (g .remote + 1)) [
+      | inl h ↦ record { remote-within = omega (arith, h .0, h .1); last-within = omega (arith, w .last-within, h .1); most = omega (arith, w .most, h .1) }
+      | inr h ↦ record { remote-within = omega (arith, h .1); last-within = omega (arith, w .last-within, h .0, h .1); most = omega (arith, most e, h .1) }
+    ])
+    (λ e. w)
 
 pub within : (g : GenerationRecord) (l : List Ask) → Within g → Within (after g l)
 unfolding after

@@ -3,6 +3,8 @@ pub mod Steps
 pub mod Answers
 pub mod Numbered
 pub mod Refusals
+pub mod LocalStep
 pub mod Connection
+pub mod Local
 pub mod AfterFin
 pub mod RunTable
