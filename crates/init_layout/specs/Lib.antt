@@ -12,4 +12,5 @@ pub mod ContinuingLaws
 pub mod Numbered
 pub mod Refusals
 pub mod RoundTrip
+pub mod Accepted
 pub mod WorkedExamples
