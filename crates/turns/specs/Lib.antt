@@ -1,2 +1,3 @@
 -- How the code says what is done with a segment.
 pub mod Turns
+pub mod Telling
