@@ -39,7 +39,7 @@ unfolding answerReason
 answer-right mandatory area c e =
     first-right area _ c (
       blame-right area true,
-      (λ t. numbered-right area 2 (λ z. omega arith), (λ t. numbered-right area 3 (λ z. omega arith), (λ t. numbered-right area 4 (λ z. omega arith), (λ t. numbered-right area 5 (λ z. omega arith), tt)))),
+      (λ t. numbered-right area _ (λ z. omega arith), (λ t. numbered-right area _ (λ z. omega arith), (λ t. numbered-right area _ (λ z. omega arith), (λ t. numbered-right area _ (λ z. omega arith), tt)))),
     ) e
 
 pub answering-right : (v : Seen) (mandatory : Bool) (area list : List ℕ) (c : Cause) → a.answering v mandatory area list ≡ plainFor c → CauseOf area c
@@ -100,12 +100,12 @@ pub data Gives (v : Seen) (q : Ask) (e : Door) (c : Cause) : Type 0 where
   as-kept : phaseOf (v .door .phase) ≡ unencrypted → v .door .cause ≡ c → e ≡ v .door → Gives v q e c
 
 -- a call that is one of `unless` and gives a cause is not refused
-said : (t : Option ℕ) (d : Door) (s : List ℕ) (x : Outcome) (c : Cause) → unless t d s x .reply ≡ plain c → (t ≡ none) × (unless t d s x ≡ x)
+pub said : (t : Option ℕ) (d : Door) (s : List ℕ) (x : Outcome) (c : Cause) → unless t d s x .reply ≡ plain c → (t ≡ none) × (unless t d s x ≡ x)
 unfolding unless
 said none d s x c e = (refl, refl)
 said (some n) d s x c e = let z : _≡_ {A = ℕ} 0 1 = cc in absurd (omega arith)
 
-first-fails : (b : Bool) (n : ℕ) (l : List (Bool × ℕ)) → refusal ((b, n) ∷ l) ≡ none → b ≡ false
+pub first-fails : (b : Bool) (n : ℕ) (l : List (Bool × ℕ)) → refusal ((b, n) ∷ l) ≡ none → b ≡ false
 unfolding refusal
 first-fails true n l e = let z : _≡_ {A = ℕ} 0 1 = cc in absurd (omega arith)
 first-fails false n l e = refl

@@ -16,4 +16,5 @@ pub mod Refusals
 pub mod Laws
 pub mod Verdict
 pub mod Causes
+pub mod AnswerReason
 pub mod RunTable

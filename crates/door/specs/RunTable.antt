@@ -183,6 +183,16 @@ runs =
     ∷ run (toAnswered ∷ syn other ∷ []) (written 4 ∷ plain (numbered 7) ∷ []) []
     ∷ run (toAnswered ∷ ack faulty ∷ []) (written 4 ∷ plain broken ∷ []) []
     ∷ run (toAnswered ∷ ack [] ∷ []) (written 4 ∷ plain (numbered 2) ∷ []) []
+    -- an answer that ends in Plain, by each reason, and writes nothing
+    ∷ run (answer faulty false false (0x23 ∷ []) [] (room 4) ∷ result [] ∷ []) (plain broken ∷ plain broken ∷ []) []
+    ∷ run (answer faulty false false (0x23 ∷ []) [] (room 4) ∷ []) (plain broken ∷ []) (room 4)
+    ∷ run (answer [] false false (0x23 ∷ []) [] (room 4) ∷ []) (plain (numbered 2) ∷ []) (room 4)
+    ∷ run (answer (kA ++ kA) false false (0x23 ∷ []) [] (room 4) ∷ []) (plain (numbered 2) ∷ []) (room 4)
+    ∷ run (answer illFormed false false (0x23 ∷ []) [] (room 4) ∷ []) (plain (numbered 3) ∷ []) (room 4)
+    ∷ run (answer kB false false (0x23 ∷ []) [] (room 4) ∷ []) (plain (numbered 4) ∷ []) (room 4)
+    ∷ run (answer kB true true (0x23 ∷ []) [] (room 4) ∷ []) (plain (numbered 4) ∷ []) (room 4)
+    ∷ run (answer kA true true (0x23 ∷ []) [] (room 4) ∷ []) (plain (numbered 5) ∷ []) (room 4)
+    ∷ run (answer kA false false (0x22 ∷ 0x24 ∷ []) [] (room 4) ∷ []) (plain (numbered 6) ∷ []) (room 4)
     -- Open and Plain: no change, whatever the segment; but an area above 40 bytes is refused
     ∷ run (toOffered ∷ synAck kB ∷ syn faulty ∷ synAck [] ∷ ack [] ∷ neither faulty ∷ syn (replicate 41 1) ∷ result (room 8) ∷ [])
     (written 4 ∷ nowIn opened ∷ nowIn opened ∷ nowIn opened ∷ nowIn opened ∷ nowIn opened ∷ refused 2 ∷ encrypted 0 0x23 fresh 8 noSecret ∷ [])

@@ -39,7 +39,7 @@ terms aware mandatory list nonce e =
     let c = and-true (leb 1 (length list) && leb (length list) 4) (knownOnce list) (b .0) in
     (all-teps list (c .1), b .1)
 
-global-b : (aware : Bool) → (globalOf 1 aware < 0x20) × (globalOf 1 aware % 2 ≡ 1)
+pub global-b : (aware : Bool) → (globalOf 1 aware < 0x20) × (globalOf 1 aware % 2 ≡ 1)
 unfolding globalOf
 global-b true = (omega arith, refl)
 global-b false = (omega arith, refl)
@@ -49,20 +49,20 @@ unfolding answerFits
 answer-fits t hand nonce i n l = let k = sym (known-yes t (i .0) (i .1)) in simp (k, n, l)
 
 module _ (aware : Bool) (t : ℕ) (hand : Option SessionRecord) (nonce : List ℕ) (i : IsTep t) (n : leb (length nonce) 8 ≡ true) (l : recordListed hand (t ∷ []) ≡ true) where
-  abbrev o : List ℕ
+  abbrev pub o : List ℕ
   o = optionWith (answered aware t hand nonce)
 
   answer-at-most : length o ≤ mostArea
   answer-at-most = answer-may-be-asked aware t hand nonce (answer-fits t hand nonce i n l) .short
 
-  answer-short : tooLong o ≡ false
+  pub answer-short : tooLong o ≡ false
   answer-short = le-ltb _ _ answer-at-most
 
-  answer-alone : synOption o ≡ o
+  pub answer-alone : synOption o ≡ o
   unfolding synOption
   answer-alone = option-alone (answered aware t hand nonce) true answer-at-most
 
-  answer-there : length o ≡ 0 → ⊥
+  pub answer-there : length o ≡ 0 → ⊥
   unfolding optionWith
   answer-there e = omega arith
 

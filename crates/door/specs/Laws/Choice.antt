@@ -91,6 +91,10 @@ module _ (o : List ℕ) (t : ℕ) where
   unfolding isCandidate candidate
   bad-candidate x e b = rw (e, b)
 
+  pub good-candidate : (x : Sent) → once (named t (tepsOf o)) ≡ some x → isBad x ≡ false → isCandidate o t ≡ true
+  unfolding isCandidate candidate
+  good-candidate x e b = rw (e, b)
+
   pub candidate-sent : isCandidate o t ≡ true → SentWell o t
   candidate-sent c = go (once (named t (tepsOf o))) refl
     where
@@ -196,3 +200,37 @@ module _ (o list : List ℕ) (held : List SessionRecord) where
           let j = fittingAt o t held in
           subst (Chosen o list held) y
           (resuming (h .1) (f .well) (f .resumption) (f .within) (getD held j pastEnd) refl (a-record held j (f .within)) (eqb-true _ _ (f .fits .0)) (f .fits .1))
+
+-- where none is the last that passes a test, no listed one passes it
+pub last-none : (test : ℕ → Bool) (l : List ℕ) → lastThat test l ≡ none → (u : ℕ) → isListed u l ≡ true → test u ≡ false
+unfolding isListed
+last-none test [] e u h = absurd (true≢false (sym h))
+last-none test (t ∷ l) e u h = go (lastThat test l) refl (λ q. last-none test l q u)
+  where
+    here : (b : Bool) → test t ≡ b → cond b (some t) none ≡ none → test t ≡ false
+    here true q p = let z : _≡_ {A = ℕ} 0 1 = cc in absurd (omega arith)
+    here false q p = q
+
+    which : (b : Bool) → eqb t u ≡ b → b || isListed u l ≡ true → test t ≡ false → (isListed u l ≡ true → test u ≡ false) → test u ≡ false
+    which true q k f rest = subst (λ x. test x ≡ false) (eqb-true t u q) f
+    which false q k f rest = rest k
+
+    go : (m : Option ℕ) → lastThat test l ≡ m → (lastThat test l ≡ none → isListed u l ≡ true → test u ≡ false) → test u ≡ false
+    go (some v) q rest = let p : some v ≡ none = sym (last-later test t l v q) ∙ e in let z : _≡_ {A = ℕ} 0 1 = cc in absurd (omega arith)
+    go none q rest = which (eqb t u) refl h (here (test t) refl (sym (last-here test t l q) ∙ e)) (rest q)
+
+-- no choice: no listed TEP is a candidate
+pub none-chosen : (o list : List ℕ) (held : List SessionRecord) → chooseTep o list held ≡ none → (t : ℕ) → isListed t list ≡ true → isCandidate o t ≡ false
+unfolding chooseTep
+none-chosen o list held e = go (lastThat (λ t. ltb (fittingAt o t held) (length held)) list) e
+  where
+    fresh : (m : Option ℕ) → lastThat (isCandidate o) list ≡ m → orFresh o list held none ≡ none → (t : ℕ) → isListed t list ≡ true → isCandidate o t ≡ false
+    fresh none q p = last-none (isCandidate o) list q
+    fresh (some t) q p =
+        let y : _≡_ {A = Option Choice} (some (record { tep = t; at = length held })) none = sym (choice-fresh o list held t q) ∙ p in
+        let z : _≡_ {A = ℕ} 0 1 = cc in
+        absurd (omega arith)
+
+    go : (m : Option ℕ) → orFresh o list held m ≡ none → (t : ℕ) → isListed t list ≡ true → isCandidate o t ≡ false
+    go none p = fresh (lastThat (isCandidate o) list) refl p
+    go (some t) p = let z : _≡_ {A = ℕ} 0 1 = cc in absurd (omega arith)
