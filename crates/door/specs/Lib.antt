@@ -14,6 +14,7 @@ pub mod Numbered
 pub mod SameTests
 pub mod Refusals
 pub mod Laws
+pub mod Taking
 pub mod Verdict
 pub mod Causes
 pub mod AnswerReason

@@ -67,6 +67,20 @@ secretR = replicate 32 0x5a
 abbrev storeR : Ask
 storeR = store 0x23 0 (lowHalf ++ highHalf) secretR
 
+-- records of other TEPs: P of TEP 21, role A, sends c1 and expects c2; Q of TEP 24, role B, sends d2 and expects d1
+abbrev nine : ℕ → List ℕ
+nine x = replicate 9 x
+
+abbrev storeP : Ask
+storeP = store 0x21 0 (nine 0xc1 ++ nine 0xc2) (replicate 32 0x50)
+
+abbrev storeQ : Ask
+storeQ = store 0x24 1 (nine 0xd1 ++ nine 0xd2) (replicate 32 0x51)
+
+-- S is of TEP 23, sends e1 and expects what R expects
+abbrev storeS : Ask
+storeS = store 0x23 0 (nine 0xe1 ++ highHalf) (replicate 32 0x53)
+
 abbrev room : ℕ → List ℕ
 room n = replicate n 0xee
 
@@ -122,6 +136,10 @@ other = 0x45 ∷ 4 ∷ 1 ∷ 0x21 ∷ []
 abbrev illFormed : List ℕ
 illFormed = 0x45 ∷ 4 ∷ 0x80 ∷ 0x21 ∷ []
 
+-- A's resumption of TEP 21, as P expects it, and of TEP 23, as R does
+abbrev both : List ℕ
+both = 0x45 ∷ 23 ∷ 0x88 ∷ 0xa1 ∷ nine 0xc2 ++ 0xa3 ∷ highHalf
+
 unfoldable pub runs : List Run
 runs =
     -- K1 through offer, receive, result; a result is out of turn before Open
@@ -156,6 +174,31 @@ runs =
     (0x45 ∷ 13 ∷ 0x21 ∷ 0xa3 ∷ highHalf ++ 0x45 ∷ 14 ∷ 1 ∷ 0xa3 ∷ lowHalf ++ 7 ∷ [])
     ∷ run (store 0x21 0 (replicate 18 1) secretR ∷ store 0x21 0 (replicate 18 2) secretR ∷ store 0x21 0 (replicate 18 3) secretR ∷ store 0x21 1 (replicate 18 1) secretR ∷ store 0x22 1 (replicate 18 1) secretR ∷ storeR ∷ forget 0x21 (replicate 18 2) ∷ forget 0x21 (replicate 18 2) ∷ count ∷ close ∷ count ∷ [])
     (done ∷ done ∷ done ∷ refused 7 ∷ done ∷ refused 6 ∷ done ∷ refused 16 ∷ holds 3 ∷ done ∷ holds 3 ∷ []) []
+    -- an offer takes the oldest record of a listed TEP
+    ∷ run (storeP ∷ storeR ∷ offer 0 false false (0x23 ∷ 0x21 ∷ []) true [] (room 13) ∷ []) (done ∷ done ∷ written 13 ∷ []) (0x45 ∷ 13 ∷ 0x23 ∷ 0xa1 ∷ nine 0xc1)
+    ∷ run (storeR ∷ storeP ∷ offer 0 false false (0x23 ∷ 0x21 ∷ []) true [] (room 13) ∷ []) (done ∷ done ∷ written 13 ∷ []) (0x45 ∷ 13 ∷ 0x21 ∷ 0xa3 ∷ lowHalf)
+    ∷ run (storeS ∷ storeR ∷ offer 0 false false (0x23 ∷ []) true [] (room 12) ∷ count ∷ resend (room 12) ∷ []) (done ∷ done ∷ written 12 ∷ holds 1 ∷ written 12 ∷ []) (0x45 ∷ 12 ∷ 0xa3 ∷ nine 0xe1)
+    -- an older one of a TEP that is not listed stays
+    ∷ run (storeQ ∷ storeP ∷ storeR ∷ offer 0 false false (0x23 ∷ 0x21 ∷ []) true [] (room 13) ∷ forget 0x24 (nine 0xd1 ++ nine 0xd2) ∷ forget 0x23 (lowHalf ++ highHalf) ∷ count ∷ resend (room 13) ∷ [])
+    (done ∷ done ∷ done ∷ written 13 ∷ done ∷ done ∷ holds 0 ∷ written 13 ∷ [])
+    (0x45 ∷ 13 ∷ 0x23 ∷ 0xa1 ∷ nine 0xc1)
+    ∷ run (storeQ ∷ storeP ∷ storeR ∷ offer 0 false false (0x23 ∷ []) true [] (room 12) ∷ []) (done ∷ done ∷ done ∷ written 12 ∷ []) (0x45 ∷ 12 ∷ 0xa3 ∷ lowHalf)
+    -- none is of a listed TEP; and an offer that does not resume: all stay
+    ∷ run (storeP ∷ storeR ∷ offer 0 false false (0x22 ∷ 0x24 ∷ []) true [] (room 4) ∷ count ∷ resend (room 4) ∷ []) (done ∷ done ∷ written 4 ∷ holds 2 ∷ written 4 ∷ []) (0x45 ∷ 4 ∷ 0x22 ∷ 0x24 ∷ [])
+    ∷ run (storeP ∷ storeR ∷ toOffered ∷ count ∷ resend (room 4) ∷ []) (done ∷ done ∷ written 4 ∷ holds 2 ∷ written 4 ∷ []) kA
+    -- an answer: one that can be resumed comes before a later listed one that cannot
+    ∷ run (storeP ∷ storeR ∷ answer (0x45 ∷ 13 ∷ 0x24 ∷ 0xa3 ∷ highHalf) false false (0x23 ∷ 0x24 ∷ []) [] (room 13) ∷ []) (done ∷ done ∷ written 13 ∷ []) (0x45 ∷ 13 ∷ 1 ∷ 0xa3 ∷ lowHalf)
+    -- of two that can be resumed the last listed
+    ∷ run (storeP ∷ storeR ∷ answer both false false (0x21 ∷ 0x23 ∷ []) [] (room 13) ∷ []) (done ∷ done ∷ written 13 ∷ []) (0x45 ∷ 13 ∷ 1 ∷ 0xa3 ∷ lowHalf)
+    ∷ run (storeP ∷ storeR ∷ answer both false false (0x23 ∷ 0x21 ∷ []) [] (room 13) ∷ count ∷ resend (room 13) ∷ []) (done ∷ done ∷ written 13 ∷ holds 1 ∷ written 13 ∷ []) (0x45 ∷ 13 ∷ 1 ∷ 0xa1 ∷ nine 0xc1)
+    -- of two that fit the oldest
+    ∷ run (storeQ ∷ storeS ∷ storeR ∷ answer (0x45 ∷ 12 ∷ 0xa3 ∷ highHalf) false false (0x23 ∷ []) [] (room 13) ∷ forget 0x23 (lowHalf ++ highHalf) ∷ count ∷ resend (room 13) ∷ [])
+    (done ∷ done ∷ done ∷ written 13 ∷ done ∷ holds 1 ∷ written 13 ∷ [])
+    (0x45 ∷ 13 ∷ 1 ∷ 0xa3 ∷ nine 0xe1)
+    -- none can be resumed: the last listed that was sent once and not bad, and all stay
+    ∷ run (storeP ∷ storeR ∷ answer (0x45 ∷ 14 ∷ 0x21 ∷ 0x24 ∷ 0xa3 ∷ lowHalf) false false (0x24 ∷ 0x21 ∷ 0x22 ∷ []) [] (room 4) ∷ count ∷ resend (room 4) ∷ [])
+    (done ∷ done ∷ written 4 ∷ holds 2 ∷ written 4 ∷ [])
+    (0x45 ∷ 4 ∷ 1 ∷ 0x21 ∷ [])
     -- the receive table, row by row: Idle
     ∷ run (syn kB ∷ synAck kB ∷ ack kB ∷ neither kB ∷ neither (replicate 41 1) ∷ []) (refused 4 ∷ refused 4 ∷ refused 4 ∷ refused 4 ∷ refused 2 ∷ []) []
     -- Offered

@@ -107,20 +107,20 @@ module _ (o : List ℕ) (t : ℕ) where
       go (some x) e = one x e (isBad x) refl
 
   module _ (held : List SessionRecord) where
-    none-fitting : once (named t (tepsOf o)) ≡ none → fittingAt o t held ≡ length held
+    pub none-fitting : once (named t (tepsOf o)) ≡ none → fittingAt o t held ≡ length held
     unfolding fittingAt candidate
     none-fitting e = rw e
 
     module _ (x : Sent) (e : once (named t (tepsOf o)) ≡ some x) where
-      bad-fitting : isBad x ≡ true → fittingAt o t held ≡ length held
+      pub bad-fitting : isBad x ≡ true → fittingAt o t held ≡ length held
       unfolding fittingAt candidate
       bad-fitting b = rw (e, b)
 
-      fresh-fitting : isBad x ≡ false → isResumption x ≡ false → fittingAt o t held ≡ length held
+      pub fresh-fitting : isBad x ≡ false → isResumption x ≡ false → fittingAt o t held ≡ length held
       unfolding fittingAt candidate
       fresh-fitting b n = rw (e, b, n)
 
-      expected-fitting : isBad x ≡ false → isResumption x ≡ true
+      pub expected-fitting : isBad x ≡ false → isResumption x ≡ true
           → fittingAt o t held ≡ firstThat (λ r. eqb (r .tep) t && sameBytes (expectedHalf r) (halfOf o x)) held
       unfolding fittingAt candidate
       expected-fitting b n = rw (e, b, n)
@@ -167,10 +167,10 @@ pub data Chosen (o list : List ℕ) (held : List SessionRecord) (c : Choice) : T
       → getD held (c .at) pastEnd ≡ r → recordAt held (c .at) ≡ some r → r .tep ≡ c .tep → sameBytes (expectedHalf r) (halfOf o (w .sent)) ≡ true → Chosen o list held c
 
 module _ (o list : List ℕ) (held : List SessionRecord) where
-  choice-fresh : (t : ℕ) → lastThat (isCandidate o) list ≡ some t → orFresh o list held none ≡ some (record { tep = t; at = length held })
+  pub choice-fresh : (t : ℕ) → lastThat (isCandidate o) list ≡ some t → orFresh o list held none ≡ some (record { tep = t; at = length held })
   choice-fresh t e = rw (e, orFresh)
 
-  choice-none : lastThat (isCandidate o) list ≡ none → orFresh o list held none ≡ none
+  pub choice-none : lastThat (isCandidate o) list ≡ none → orFresh o list held none ≡ none
   choice-none e = rw (e, orFresh)
 
   pub chosen : (c : Choice) → chooseTep o list held ≡ some c → Chosen o list held c
