@@ -1,3 +1,2 @@
 -- Laws of generations that the proofs of the functions cite.
 pub mod Ways
-pub mod Lent

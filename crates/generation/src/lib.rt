@@ -1,9 +1,9 @@
-// Rekeying: the generation record of a connection, its steps by value, and the same steps on a record that is lent.
+// Rekeying: the generation record of a connection, and its steps by value.
 ghost use mathlib.Core.Path.{_≡_};
 ghost use mathlib.Core.Bool.{_&&_, not};
 ghost use lib.Dec.{ltb};
 ghost use Rattle.generation.specs.Steps.{Ask, first, owed, sending, outcome};
-ghost use Rattle.generation.specs.Answers.{stepOf, lent};
+ghost use Rattle.generation.specs.Answers.{stepOf};
 
 // Local, remote, last used in sending, and whether FINp was sent.
 #[repr(C)]
@@ -185,37 +185,4 @@ pub fn receive(g: GenerationRecord, rekey: bool) -> GenerationStep
         },
         reply: GenerationReply::Received(remote),
     }
-}
-
-// Sends one frame of the connection whose record is lent.
-pub fn send_frame(g: &mut GenerationRecord, fin: bool) -> GenerationReply
-    ensures { λ r. ⌜ lent r (now (g .exit)) ≡ outcome (now (g .entry)) (Ask.send fin) ⌝ }
-{
-    let w = *g;
-    let step = send(w, fin);
-    let x = step.next;
-    *g = x;
-    step.reply
-}
-
-// Initiates rekeying in the connection whose record is lent.
-pub fn initiate_rekey(g: &mut GenerationRecord, has_data: bool, fin: bool) -> GenerationReply
-    ensures { λ r. ⌜ lent r (now (g .exit)) ≡ outcome (now (g .entry)) (Ask.initiate has_data fin) ⌝ }
-{
-    let w = *g;
-    let step = initiate(w, has_data, fin);
-    let x = step.next;
-    *g = x;
-    step.reply
-}
-
-// A frame was received in the connection whose record is lent.
-pub fn receive_frame(g: &mut GenerationRecord, rekey: bool) -> GenerationReply
-    ensures { λ r. ⌜ lent r (now (g .exit)) ≡ outcome (now (g .entry)) (Ask.receive rekey) ⌝ }
-{
-    let w = *g;
-    let step = receive(w, rekey);
-    let x = step.next;
-    *g = x;
-    step.reply
 }

@@ -1,4 +1,4 @@
--- `generation::send_frame` meets its contract: a walk of its MIR, by hand. The borrow is opened, the record is copied out, `send` is called on the copy, the record
+-- `generation_lent::send_frame` meets its contract: a walk of its MIR, by hand. The borrow is opened, the record is copied out, `send` is called on the copy, the record
 -- and the answer of its step are copied to the record behind the borrow and to the result, and the borrow is closed at the new record.
 -- Assumes nothing.
 use Prim.Native.Nat.{ℕ}
@@ -41,25 +41,25 @@ use denote.Triple.Table.{entered, cited}
 use denote.Triple.Clauses.{ensured, lasts}
 use denote.Triple.Walked.{says, Stays, stay-ref, stay-none, walkOf, AllGo, goes-none, goes-ref, Walks, ends-at, walked, walk-meets}
 use denote.Exit.{yes}
 use Rattle.generation.specs.Steps.{send, outcome}
 use Rattle.generation.specs.Answers.{stepOf}
 use Rattle.generation.specs.declared.GenerationRecord.{GenerationRecord}
 use Rattle.generation.specs.declared.GenerationStep.{GenerationStep}
 use Rattle.generation.proofs.GenerationRecord as G
 use Rattle.generation.proofs.GenerationRecord.Laws as G′
 use Rattle.generation.proofs.GenerationReply as R
 use Rattle.generation.proofs.GenerationReply.Laws as R′
 use Rattle.generation.proofs.GenerationStep as O
 use Rattle.generation.proofs.GenerationStep.Laws as O′
-use Rattle.generation.proofs.Lent.{valG, valR, isG, isR, typedG, typedR}
+use Rattle.generation_lent.proofs.Lent.{valG, valR, isG, isR, typedG, typedR}
 use Rattle.generation.proofs.send as step
 use Rattle.generation.proofs.send.Symbol as step-def
 use Rattle.generation.proofs.send.Symbol.{name as #generation·send}
 use Rattle.generation.proofs.send.Met as step-thm
-use Rattle.generation.proofs.send_frame.Key.{name as #generation·send-frame}
-use Rattle.generation.proofs.send_frame as f
-use Rattle.generation.proofs.send_frame.Statement as stated
-use Rattle.generation.proofs.send_frame.Code as code
+use Rattle.generation_lent.proofs.send_frame.Key.{name as #generation_lent·send-frame}
+use Rattle.generation_lent.proofs.send_frame as f
+use Rattle.generation_lent.proofs.send_frame.Statement as stated
+use Rattle.generation_lent.proofs.send_frame.Code as code
 
 abbrev Arg : Type 0
 Arg = RefT GenerationRecord × (Bool × Unit {0})
@@ -111,7 +111,7 @@ module _ {M : Type 1} (𝓤 : URA M) (H : Heap 𝓤) (A : Atoms 𝓤) (W : Given
         alloc1 ! (λ l₀. alloc1 ! (λ l₁. alloc1 ! (λ l₂. alloc1 ! (λ l₃. alloc1 ! (λ l₄. alloc1 ! (λ l₅. alloc0 ! $ params1 ! $ pass1 ! (init ! 8 refl (tt, tt)) $ pass1 ! (init ! 6 refl (tt, tt)) $ pass0 ! $
         move ! (12 ∷ 13 ∷ 14 ∷ []) $ opens ! tt G.the-row {h = h} b o (λ vs. spelt ! G.the-row (Is G.the-row) (shows 𝓤 H A G.the-row) (LL.vals G.the-type G′.the-laws) (LL.tells G.the-type G′.the-laws) fullShare h vs b o $
         move ! (1 ∷ []) $ peeks ! G.the-row (Is G.the-row) (shows 𝓤 H A G.the-row) h (valG h ∷ []) (λ was. move ! (1 ∷ 0 ∷ []) $
-        -- [0 the record's cell; 1 what a record owns; 2 the open borrow; 3 obs; 4 auth; then the locals, the last first, each with its room: 5 x; 7 step; 9 w; ..; 13 g; 15 room for the result]
+        -- [0 the record's cell; 1 what a record owns; 2 the open borrow; 3 obs; 4 auth; then the locals, the last first, each with its room: 5 after_send; 7 sent; 9 before; ..; 13 g; 15 room for the result]
         assigns ! (of-opd ! (load ! (from ! (hop ! (look ! 13 refl) (stop !))) (look-raw ! 0 refl))) (from ! (stop !)) (init ! 9 refl (typedG 𝓤 H A W h was)) $
         -- the call
         owned ! bool (Is bool) (bool-makes 𝓤 H A W) t _ refl $ owned ! G.the-row (Is G.the-row) ((LL.makes G.the-type G′.the-plain) 𝓤 H A) h _ was $
@@ -120,7 +120,7 @@ module _ {M : Type 1} (𝓤 : URA M) (H : Heap 𝓤) (A : Atoms 𝓤) (W : Given
         use1 W (later (some (λ (r : GenerationStep). (‵ ftrue ⊛ ‵ (O.the-row .own r (v ∷ []))) ⊛ raw (ensured 𝓤 H A step.ended (step.clauses 𝓤 H A at-mem run) tt (h, (t, tt)) tt r)))) (id⊢ 𝓤 _) $ await ! tt $ pick ! (λ r.
         split ! $ move ! (1 ∷ []) $ use1 W (raw (fact 𝓤 (stepOf r ≡ outcome h (send t)))) (did 𝓤 H A at-mem run h t r) $ heard ! (stepOf r ≡ outcome h (send t)) (λ e. split ! $ drop ! $
         peeks ! O.the-row (Is O.the-row) (shows 𝓤 H A O.the-row) r (v ∷ []) (λ is.
-        -- [0 what the step owns; 1 the record's cell; 2 what a record owns; 3 the open borrow; 4 obs; 5 auth; 6 x; 8 step; 10 w; ..; 14 g; 16 room for the result]
+        -- [0 what the step owns; 1 the record's cell; 2 what a record owns; 3 the open borrow; 4 obs; 5 auth; 6 after_send; 8 sent; 10 before; ..; 14 g; 16 room for the result]
         land ! (from ! (stop !)) (init ! 8 refl (LL.lawful O.the-type O′.the-laws 𝓤 H A W .typed r _ is .0)) $
         rewrite ! 8 (λ (w : Val). ‵ (fat fullShare O′.mir l₄ 0 w)) (ap only (LL.tells O.the-type O′.the-laws r (v ∷ []) is)) refl $
         assigns ! (of-opd ! (load ! (from ! (fld ! refl (stop !))) (look-in ! 8 (sub ! 0 refl (whole !))))) (from ! (stop !)) (init ! 6 refl (typedG 𝓤 H A W (r .next) (isG r v is))) $
@@ -154,6 +154,6 @@ pub send-frame-spec : {M : Type 1} → stated.statement M
 unfolding code.routine tablesOf
 send-frame-spec 𝓤 H 𝓜 𝓖 𝓡 =
     entered 𝓤 H (tripleOf 𝓤 H (𝓖 .A) f.signature (f.spec 𝓤 H (𝓖 .A) (𝓜 .mem) (𝓡 .run)))
-    (tables 𝓤 H 𝓜 𝓡 code.env .C) (tables 𝓤 H 𝓜 𝓡 code.env .Λ) #generation·send-frame code.function (code.unfolded 𝓤 H 𝓜 𝓡)
+    (tables 𝓤 H 𝓜 𝓡 code.env .C) (tables 𝓤 H 𝓜 𝓡 code.env .Λ) #generation_lent·send-frame code.function (code.unfolded 𝓤 H 𝓜 𝓡)
     (meets 𝓤 H (𝓖 .A) (givenOf 𝓤 H 𝓜 𝓖) (𝓜 .mem) (𝓡 .run) (tablesOf 𝓤 H 𝓜 (tables 𝓤 H 𝓜 𝓡 code.env))
     (cited 𝓤 H (Step 𝓤 H (𝓖 .A) (𝓜 .mem) (𝓡 .run)) 𝓜 𝓡 code.env #generation·send step-def.routine code.calls-generation·send (step-thm.met 𝓤 H 𝓜 𝓖 𝓡)))

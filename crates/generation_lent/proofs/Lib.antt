@@ -1,0 +1,2 @@
+-- The machine values that the proofs of the functions cite.
+pub mod Lent
