@@ -106,6 +106,13 @@ kA = 0x45 ∷ 4 ∷ 0x21 ∷ 0x23 ∷ []
 abbrev kB : List ℕ
 kB = 0x45 ∷ 4 ∷ 1 ∷ 0x23 ∷ []
 
+-- with a = 1
+abbrev aA : List ℕ
+aA = 0x45 ∷ 5 ∷ 2 ∷ 0x21 ∷ 0x23 ∷ []
+
+abbrev aB : List ℕ
+aB = 0x45 ∷ 4 ∷ 3 ∷ 0x23 ∷ []
+
 -- the ways into the phases
 abbrev toOffered : Ask
 toOffered = offer 0 false false (0x21 ∷ 0x23 ∷ []) false [] (room 4)
@@ -174,6 +181,11 @@ runs =
     (0x45 ∷ 13 ∷ 0x21 ∷ 0xa3 ∷ highHalf ++ 0x45 ∷ 14 ∷ 1 ∷ 0xa3 ∷ lowHalf ++ 7 ∷ [])
     ∷ run (store 0x21 0 (replicate 18 1) secretR ∷ store 0x21 0 (replicate 18 2) secretR ∷ store 0x21 0 (replicate 18 3) secretR ∷ store 0x21 1 (replicate 18 1) secretR ∷ store 0x22 1 (replicate 18 1) secretR ∷ storeR ∷ forget 0x21 (replicate 18 2) ∷ forget 0x21 (replicate 18 2) ∷ count ∷ close ∷ count ∷ [])
     (done ∷ done ∷ done ∷ refused 7 ∷ done ∷ refused 6 ∷ done ∷ refused 16 ∷ holds 3 ∷ done ∷ holds 3 ∷ []) []
+    -- a is bit 1 of the global byte: written, and read from the other side
+    ∷ run (offer 0 true false (0x21 ∷ 0x23 ∷ []) false [] (room 5) ∷ []) (written 5 ∷ []) aA
+    ∷ run (offer 0 true true (0x21 ∷ 0x23 ∷ []) false [] (room 5) ∷ synAck aB ∷ result (room 9) ∷ []) (written 5 ∷ nowIn opened ∷ encrypted 0 0x23 fresh 9 noSecret ∷ []) (aA ++ aB)
+    ∷ run (offer 0 true true (0x21 ∷ 0x23 ∷ []) false [] (room 5) ∷ synAck (0x45 ∷ 4 ∷ 5 ∷ 0x23 ∷ []) ∷ []) (written 5 ∷ plain (numbered 5) ∷ []) []
+    ∷ run (answer aA true true (0x23 ∷ []) [] (room 4) ∷ []) (written 4 ∷ []) aB
     -- an offer takes the oldest record of a listed TEP
     ∷ run (storeP ∷ storeR ∷ offer 0 false false (0x23 ∷ 0x21 ∷ []) true [] (room 13) ∷ []) (done ∷ done ∷ written 13 ∷ []) (0x45 ∷ 13 ∷ 0x23 ∷ 0xa1 ∷ nine 0xc1)
     ∷ run (storeR ∷ storeP ∷ offer 0 false false (0x23 ∷ 0x21 ∷ []) true [] (room 13) ∷ []) (done ∷ done ∷ written 13 ∷ []) (0x45 ∷ 13 ∷ 0x21 ∷ 0xa3 ∷ lowHalf)

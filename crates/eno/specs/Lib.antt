@@ -13,5 +13,6 @@ pub mod Blame
 pub mod Causes
 pub mod SuboptionGrammar
 pub mod ReadBack
+pub mod WrittenValues
 pub mod BenchTable
 pub mod Laws

@@ -127,7 +127,7 @@ unfolding encodeAll lastPart resumptionPart
 last-proper none nonce h = tt
 last-proper (some r) nonce h = (sub.data-to-end {x = r .tep + 0x80} (omega arith), tt)
 
-fresh-teps : (hand : Option SessionRecord) (list : List ℕ) → Every IsTep list → Every IsTep (freshTeps hand list)
+pub fresh-teps : (hand : Option SessionRecord) (list : List ℕ) → Every IsTep list → Every IsTep (freshTeps hand list)
 unfolding freshTeps
 fresh-teps none list p = p
 fresh-teps (some r) list p = without-teps (r .tep) list p
