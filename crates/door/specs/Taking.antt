@@ -4,7 +4,7 @@ use mathlib.Core.Path.{_≡_, refl, sym, _∙_, ap, ap₂, subst}
 use mathlib.Core.List.{List, [], _∷_, _++_, head-eq-of-cons-eq, tail-eq-of-cons-eq}
 use mathlib.Core.Bool.{Bool, true, false, cond, _&&_, _||_, true≢false, false≢true}
 use mathlib.Core.Option.{Option, none, some}
-use mathlib.Core.Logic.{_⊎_, inl, inr}
+use mathlib.Core.Logic.{_⊎_, inl, inr, _↔_}
 use native.Mathlib.Omega.{arith}
 use borrow.Author.Tests.{eqb-true, eqb-false, eq-eqb, ne-eqb, ltb-true, ltb-false, le-ltb}
 use lib.Dec.{ltb, eqb}
@@ -202,7 +202,7 @@ unfolding inHand handOf emptyHand
 in-hand none = refl
 in-hand (some r) = refl
 
--- an offer takes the oldest held record whose TEP is listed, and takes one exactly when resuming and there is one
+-- an offer takes the oldest held record whose TEP is listed, if it is resuming
 pub offer-takes : (v : Seen) (b : ℕ) (aware mandatory : Bool) (list : List ℕ) (resume : Bool) (nonce s : List ℕ) (n : ℕ)
     → offer v b aware mandatory list resume nonce s .reply ≡ written n
     → Takes (λ r. (resume ≡ true) × In (r .tep) list) (v .held) (after v (offer v b aware mandatory list resume nonce s) .held) (inHand (offer v b aware mandatory list resume nonce s .door .hand))
@@ -217,6 +217,19 @@ offer-takes v b aware mandatory list resume nonce s n e =
     go : (c : Bool) → Takes (λ r. (c ≡ true) × In (r .tep) list) (v .held) (effected (taking (offeredAt c list (v .held)) (v .held)) (v .held)) (recordAt (v .held) (offeredAt c list (v .held)))
     go true = take-first _ (v .held) (λ r. isListed (r .tep) list) (record { yes-has = λ r q. (refl, listed-in (r .tep) list q); no-has-not = λ r q p. not-listed (r .tep) list q (p .1) })
     go false = take-none _ (v .held) (length (v .held)) (omega arith) (all-fail (λ r. (false ≡ true) × In (r .tep) list) (v .held) (λ r p. false≢true (p .0)))
+
+-- a record is taken exactly when a held one has the property: by an offer, when it is resuming and a held one's TEP is listed
+takes-exactly : (P : SessionRecord → Type 0) (held stay : List SessionRecord) (hand : Option SessionRecord) → Takes P held stay hand
+    → ((r : SessionRecord) × (hand ≡ some r)) ↔ ((r : SessionRecord) × (In r held × P r))
+takes-exactly P held stay hand (nothing e s h) =
+    (λ q. let z : none ≡ some (q .0) = sym h ∙ q .1 in let y : _≡_ {A = ℕ} 0 1 = cc in absurd (omega arith), λ q. absurd (in-every (λ r. P r → ⊥) held (q .0) e (q .1 .0) (q .1 .1)))
+takes-exactly P held stay hand (oldest r f s h) = (λ q. (r, (subst (In r) (sym (f .splits)) (in-split (f .before) (f .behind) r), f .has)), λ q. (r, h))
+
+pub offer-takes-exactly : (v : Seen) (b : ℕ) (aware mandatory : Bool) (list : List ℕ) (resume : Bool) (nonce s : List ℕ) (n : ℕ)
+    → offer v b aware mandatory list resume nonce s .reply ≡ written n
+    → ((r : SessionRecord) × (inHand (offer v b aware mandatory list resume nonce s .door .hand) ≡ some r)) ↔ ((r : SessionRecord) × (In r (v .held) × ((resume ≡ true) × In (r .tep) list)))
+offer-takes-exactly v b aware mandatory list resume nonce s n e =
+    takes-exactly (λ r. (resume ≡ true) × In (r .tep) list) (v .held) _ _ (offer-takes v b aware mandatory list resume nonce s n e)
 
 -- the TEPs named t, in terms of the list
 module _ (t : ℕ) where
