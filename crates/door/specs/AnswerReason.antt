@@ -2,11 +2,12 @@
 use Prim.Native.Nat.{ℕ, _+_}
 use mathlib.Core.Path.{_≡_, refl, sym, _∙_, ap}
 use mathlib.Core.List.{List, [], _∷_}
-use mathlib.Core.Bool.{Bool, true, false, cond, not, _||_, true≢false}
+use mathlib.Core.Bool.{Bool, true, false, cond, not, _&&_, _||_, true≢false, false≢true}
+use mathlib.Core.Logic.{_↔_}
 use mathlib.Core.Option.{Option, none, some}
 use native.Mathlib.Omega.{arith}
 use borrow.Author.Tests.{eqb-true, ne-eqb, eq-eqb, eqb-false}
-use lib.Dec.{leb, eqb}
+use lib.Dec.{ltb, leb, eqb}
 use lib.ListN.{length}
 use Rattle.eno.specs.Walk.{readable, listed}
 use Rattle.eno.specs.Area.{synOption}
@@ -15,19 +16,23 @@ use Rattle.eno.specs.Suboption.{Sent, global, tep, suboptions, isIllFormed, glo
 use Rattle.eno.specs.Judge as judged
 use Rattle.eno.specs.Judge.{isBad, named, once, ofB, Way, Sides, wayOf, wayOfBoth, tepsOf, validity, lastValid, agreed, negotiate, Judged, firstOf, tooLong, roleOf, judge}
 use Rattle.eno.specs.Tep.{isKnown}
-use Rattle.eno.specs.Option.{encode, encodeAll, optionWith, globalOf, resumptionPart, isListed, recordListed, answered}
+use Rattle.eno.specs.Option.{encode, encodeAll, optionWith, globalOf, resumptionPart, isListed, isTepList, recordListed, answered}
 use Rattle.eno.specs.Laws.Suboption.{sentAs}
-use Rattle.eno.specs.Laws.Asked.{IsTep, listed-tep}
+use Rattle.eno.specs.Laws.Walk.{Every}
+use Rattle.eno.specs.Laws.Asked.{and-true, IsTep, listed-tep}
 use Rattle.eno.specs.declared.SessionRecord.{SessionRecord}
 use Rattle.eno.specs.declared.Cause.{Cause}
-use Rattle.door.specs.Door.{Seen}
-use Rattle.door.specs.Outcome.{Outcome, plain, refusal}
-use Rattle.door.specs.Offer.{termsFit}
-use Rattle.door.specs.Answer.{isCandidate, Choice, chooseTep, chosenOr, reasonOr, answerReason, Answering, plainFor, with, answerWith, answering, answer}
-use Rattle.door.specs.Laws.Choice.{good-candidate, none-chosen}
+use Rattle.door.specs.Door.{phaseOf, Seen}
+use Rattle.door.specs.Record.{recordAt}
+use Rattle.door.specs.Outcome.{Outcome, refused, plain, refusal, unless}
+use Rattle.door.specs.Offer.{isIdle, termsFit}
+use Rattle.door.specs.Answer.{isCandidate, Choice, chooseTep, chosenOr, reasonOr, answerReason, Answering, plainFor, with, answerWith, answerLength, answering, answer}
+use Rattle.door.specs.Laws.Choice.{good-candidate, none-chosen, listed-here, Chosen, freshly, resuming, chosen}
 use Rattle.door.specs.Laws.Judged.{reads-data, reads-bare, found-there, asB}
 use Rattle.door.specs.Laws.Answered.{terms, global-b, answer-short, answer-alone, answer-there}
 use Rattle.door.specs.Causes.{said, first-fails}
+use Rattle.door.specs.Verdict.{answer-agrees}
+use Rattle.door.specs.declared.Door.{Door}
 
 -- a cause where there is one, else the rest
 abbrev pub causeOr : Option Cause → Judged → Judged
@@ -182,3 +187,76 @@ answer-reason-is-judged v area aware mandatory list nonce s c e t r hand l k =
     ∙ same-cause (answerReason mandatory area) (chooseTep (synOption area) list (v .held)) c _
     (answer-plain v aware mandatory (synOption area) nonce s c _ (sym (ap (λ (y : Outcome). y .reply) (q .1)) ∙ e))
     (λ x. none-valid mandatory hand aware t r nonce area i (w .1) k fits (none-chosen (synOption area) list (v .held) x t l))
+
+-- a call that is not refused
+allowed : (t : Option ℕ) (d : Door) (s : List ℕ) (x : Outcome) → ((n : ℕ) → unless t d s x .reply ≡ refused n → ⊥) → (t ≡ none) × (unless t d s x ≡ x)
+unfolding unless
+allowed none d s x z = (refl, refl)
+allowed (some n) d s x z = absurd (z n refl)
+
+one-listed : (list : List ℕ) → isTepList list ≡ true → (t : ℕ) × (isListed t list ≡ true)
+unfolding isTepList
+one-listed [] e = absurd (false≢true e)
+one-listed (t ∷ l) e = (t, listed-here t l)
+
+same-plain : (j : Judged) (n c : Cause) → j ≡ judged.plain n → j ≡ judged.plain c → n ≡ c
+same-plain j n c p q = let z : judged.plain n ≡ judged.plain c = sym p ∙ q in cc
+
+reasoned-with : (m : Option Cause) (ch : Option Choice) (c : Choice) → reasonOr m (chosenOr ch) ≡ with c → (m ≡ none) × (ch ≡ some c)
+reasoned-with (some n) ch c e = let z : _≡_ {A = ℕ} 0 1 = cc in absurd (omega arith)
+reasoned-with none none c e = let z : _≡_ {A = ℕ} 0 1 = cc in absurd (omega arith)
+reasoned-with none (some d) c e = let same : d ≡ c = cc in (refl, ap some same)
+
+chosen-listed : (o list : List ℕ) (held : List SessionRecord) (c : Choice) → Chosen o list held c → (isListed (c .tep) list ≡ true) × (recordListed (recordAt held (c .at)) (c .tep ∷ []) ≡ true)
+unfolding recordListed isListed
+chosen-listed o list held c (freshly l w there) = (l, rw there)
+chosen-listed o list held c (resuming l w n within r is there e expected) = (l, rw there (simp (eq-eqb (c .tep) (r .tep) (sym e))))
+
+encrypt-not-plain : (role byte : ℕ) (way : Way) (t : List ℕ) (c : Cause) → judged.encrypt role byte way t ≡ judged.plain c → ⊥
+encrypt-not-plain role byte way t c e = let z : _≡_ {A = ℕ} 0 1 = cc in omega arith
+
+list-fits : (aware mandatory : Bool) (list nonce : List ℕ) → termsFit aware mandatory list nonce ≡ true → isTepList list ≡ true
+unfolding termsFit
+list-fits aware mandatory list nonce e = and-true (isTepList list) (leb (length nonce) 8) (and-true (isTepList list && leb (length nonce) 8) (aware || not mandatory) e .0) .0
+
+-- so an answer that is not refused ends in Plain with the cause c exactly when the judge gives c for every option that it could have written
+module _ (v : Seen) (area : List ℕ) (aware mandatory : Bool) (list nonce s : List ℕ) (c : Cause) where
+  abbrev pub AllJudged : Type 0
+  AllJudged = (t : ℕ) (r hand : Option SessionRecord) → isListed t list ≡ true → recordListed r (t ∷ []) ≡ true → judge mandatory hand (optionWith (answered aware t r nonce)) area ≡ judged.plain c
+
+  pub answer-plain-exactly : ((n : ℕ) → answer v area aware mandatory list nonce s .reply ≡ refused n → ⊥) → Every (λ r. length (r .identifier) ≡ 18) (v .held)
+      → (answer v area aware mandatory list nonce s .reply ≡ plain c) ↔ AllJudged
+  unfolding answer answering answerWith recordListed
+  answer-plain-exactly z whole = (λ e. answer-reason-is-judged v area aware mandatory list nonce s c e, back)
+    where
+      given : (refusal (
+          (tooLong area, 2)
+          ∷ (not (termsFit aware mandatory list nonce), 3)
+          ∷ (not (isIdle (phaseOf (v .door .phase))), 4)
+          ∷ (ltb (length s) (answerLength v aware nonce (answering v mandatory area list)), 5)
+          ∷ []
+          )
+          ≡ none) × (answer v area aware mandatory list nonce s ≡ answerWith v aware mandatory (synOption area) nonce s (answering v mandatory area list))
+      given = allowed _ (v .door) s _ z
+
+      fits : tooLong area ≡ false
+      fits = first-fails (tooLong area) 2 _ (given .0)
+
+      apt : termsFit aware mandatory list nonce ≡ true
+      apt = not-false _ (first-fails (not (termsFit aware mandatory list nonce)) 3 _ (rest-fails (tooLong area) 2 _ (given .0)))
+
+      back : AllJudged → answer v area aware mandatory list nonce s .reply ≡ plain c
+      back all = go (answering v mandatory area list) refl
+        where
+          go : (a : Answering) → answering v mandatory area list ≡ a → answer v area aware mandatory list nonce s .reply ≡ plain c
+          go (plainFor n) q =
+              let says : answer v area aware mandatory list nonce s .reply ≡ plain n = ap (λ (x : Outcome). x .reply) (given .1 ∙ ap (answerWith v aware mandatory (synOption area) nonce s) q) in
+              let t = one-listed list (list-fits aware mandatory list nonce apt) in
+              let same : n ≡ c = same-plain _ n c (answer-reason-is-judged v area aware mandatory list nonce s n says (t .0) none none (t .1) refl) (all (t .0) none none (t .1) refl) in
+              says ∙ ap plain same
+          go (with ch) q =
+              let w = reasoned-with (answerReason mandatory area) (chooseTep (synOption area) list (v .held)) ch q in
+              let l = chosen-listed (synOption area) list (v .held) ch (chosen (synOption area) list (v .held) ch (w .1)) in
+              let r = recordAt (v .held) (ch .at) in
+              let p = sym (answer-agrees aware mandatory area list nonce (v .held) ch fits apt (w .0) (w .1) whole) ∙ all (ch .tep) r r (l .0) (l .1) in
+              absurd (encrypt-not-plain _ _ _ _ c p)

@@ -54,7 +54,7 @@ listed-later x t l e = go (eqb x t)
     go true = refl
     go false = e
 
-listed-here : (t : ℕ) (l : List ℕ) → isListed t (t ∷ l) ≡ true
+pub listed-here : (t : ℕ) (l : List ℕ) → isListed t (t ∷ l) ≡ true
 unfolding isListed
 listed-here t l = simp (eq-eqb t t refl)
 
