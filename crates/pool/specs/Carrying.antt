@@ -21,15 +21,11 @@ use Rattle.unit.specs.Numbers.{doorsN, rowsN}
 use Rattle.unit.specs.Unit.{positionAt, countOf, mine, recordsAt, view, firstFree, isFree, ownersAfter, rowsAfter, positionAfter, enact}
 use Rattle.unit.specs.declared.Position.{Position}
 use Rattle.unit.specs.declared.LinkUnit.{LinkUnit}
-use Rattle.pool.specs.Carried.{fits, enactFit}
+use Rattle.unit_bytes.specs.Whole.{unitOf}
+use Rattle.pool.specs.Carried.{fits, enactFit, takesRow}
+use Rattle.pool.specs.Placed.{positionOf}
 use Rattle.row_list.specs.Listed.{listed, unfit, longer, shorter, listingOf, sessionAfter}
 use Rattle.row_list.specs.declared.Listing.{Listing}
-
-abbrev pub unitOf : List ℕ → List SessionRecord → List Position → LinkUnit
-unitOf owners rows doors = record { owners = owners; rows = rows; doors = doors }
-
-abbrev pub positionOf : Door → ℕ → List ℕ → Position
-positionOf l n numbers = record { door = l; count = n; rows = numbers }
 
 module _ (u : LinkUnit) (d : ℕ) (l : Door) where
   -- no door of the unit
@@ -89,7 +85,7 @@ rowStored u n s = unitOf (set (u .owners) (n .row) (n .owner)) (set (u .rows) (n
 abbrev pub stored : LinkUnit → ℕ → Door → Listing → SessionRecord → LinkUnit
 stored u d l n s = unitOf (set (u .owners) (n .row) (n .owner)) (set (u .rows) (n .row) s) (cond (n .fits) (set (u .doors) d (positionOf l (n .count) (n .numbers))) (u .doors))
 
-module _ (u : LinkUnit) (owners-size : length (u .owners) ≡ rowsN) (rows-size : length (u .rows) ≡ rowsN) where
+module _ (u : LinkUnit) (owners-size : length (u .owners) ≤ rowsN) (rows-size : length (u .rows) ≤ rowsN) where
   -- no row
   pub no-row-stored : (row owner : ℕ) (s : SessionRecord) (doors : List Position) → rowsN ≤ row → unitOf (u .owners) (u .rows) doors ≡ unitOf (set (u .owners) row owner) (set (u .rows) row s) doors
   no-row-stored row owner s doors h =
@@ -99,11 +95,14 @@ module _ (u : LinkUnit) (owners-size : length (u .owners) ≡ rowsN) (rows-size 
     unfit-stored : (numbers : List ℕ) (s : SessionRecord) → stored u d l (unfit numbers) s ≡ u
     unfit-stored numbers s = sym (no-row-stored rowsN 0 s (u .doors) (omega arith))
 
-    -- the effect is carried out
-    pub carried : (c : Change) (r : SessionRecord) → stored u d l (listingOf (positionAt u d) (suc d) (firstFree (u .owners)) c) (sessionAfter c r) ≡ enactFit u d l (effectOf c r)
-    unfolding listingOf sessionAfter longer shorter
-    carried change.Keep r = sym (no-row-stored rowsN 0 r _ (omega arith)) ∙ keeps u d l ours
-    carried change.Add r = go (ltb (countOf (positionAt u d)) eachN) refl (ltb (firstFree (u .owners)) rowsN) refl
+    -- the effect is carried out, if the row for a record that is added is the lowest free one
+    pub carried : (c : Change) (r : SessionRecord) (free : ℕ) → (takesRow c ≡ true → (length (u .owners) ≡ rowsN) × (free ≡ firstFree (u .owners)))
+        → stored u d l (listingOf (positionAt u d) (suc d) free c) (sessionAfter c r) ≡ enactFit u d l (effectOf c r)
+    unfolding listingOf sessionAfter longer shorter takesRow
+    carried change.Keep r free h = sym (no-row-stored rowsN 0 r _ (omega arith)) ∙ keeps u d l ours
+    carried change.Add r free h =
+        ap (λ (i : ℕ). stored u d l (cond (ltb (countOf (positionAt u d)) eachN && ltb i rowsN) (listed i (suc d) (suc (countOf (positionAt u d))) (set (positionAt u d .rows) (countOf (positionAt u d)) i)) (unfit (positionAt u d .rows))) r) (h refl .1)
+        ∙ go (ltb (countOf (positionAt u d)) eachN) refl (ltb (firstFree (u .owners)) rowsN) refl
       where
         go : (b : Bool) → ltb (countOf (positionAt u d)) eachN ≡ b → (f : Bool) → ltb (firstFree (u .owners)) rowsN ≡ f
             → stored u d l (cond (b && f) (listed (firstFree (u .owners)) (suc d) (suc (countOf (positionAt u d))) (set (positionAt u d .rows) (countOf (positionAt u d)) (firstFree (u .owners)))) (unfit (positionAt u d .rows))) r
@@ -111,11 +110,11 @@ module _ (u : LinkUnit) (owners-size : length (u .owners) ≡ rowsN) (rows-size 
         go false e f g = unfit-stored (positionAt u d .rows) r ∙ full u d l ours size r (ltb-false _ _ e)
         go true e false g =
             let past : rowsN ≤ firstFree (u .owners) = ltb-false _ _ g in
-            unfit-stored (positionAt u d .rows) r ∙ no-row u d l ours size r (ltb-true _ _ e) (omega arith)
+            unfit-stored (positionAt u d .rows) r ∙ no-row u d l ours size r (ltb-true _ _ e) (omega (arith, h refl .0))
         go true e true g =
             let within : firstFree (u .owners) < rowsN = ltb-true _ _ g in
-            adds u d l ours size r (ltb-true _ _ e) (firstFree (u .owners)) (countOf (positionAt u d)) (suc d) (suc (countOf (positionAt u d))) refl (omega arith) refl refl refl
-    carried (change.Remove j) r = go (ltb j (countOf (positionAt u d))) refl
+            adds u d l ours size r (ltb-true _ _ e) (firstFree (u .owners)) (countOf (positionAt u d)) (suc d) (suc (countOf (positionAt u d))) refl (omega (arith, h refl .0)) refl refl refl
+    carried (change.Remove j) r free h = go (ltb j (countOf (positionAt u d))) refl
       where
         go : (b : Bool) → ltb j (countOf (positionAt u d)) ≡ b
             → stored u d l (cond b (listed (getD (positionAt u d .rows) j 0) 0 (countOf (positionAt u d) - 1) (cut j (positionAt u d .rows) ++ 0 ∷ [])) (unfit (positionAt u d .rows))) noSession
@@ -124,16 +123,19 @@ module _ (u : LinkUnit) (owners-size : length (u .owners) ≡ rowsN) (rows-size 
         go true e = removes u d l ours size j (ltb-true _ _ e) (getD (positionAt u d .rows) j 0) (countOf (positionAt u d) - 1) refl refl
 
     -- as the code goes: the row first, then the position
-    module _ (c : Change) (r s : SessionRecord) (owner free : ℕ) (n : Listing) (v : LinkUnit) (mark : owner ≡ suc d) (lowest : free ≡ firstFree (u .owners)) (list : n ≡ listingOf (positionAt u d) owner free c) (kept : s ≡ sessionAfter c r) (row : v ≡ rowStored u n s) where
-      all-stored : stored u d l n s ≡ enactFit u d l (effectOf c r)
-      all-stored = ap₂ (λ (m : Listing) (t : SessionRecord). stored u d l m t) (list ∙ ap₂ (λ (o i : ℕ). listingOf (positionAt u d) o i c) mark lowest) kept ∙ carried c r
+    module _ (c : Change) (r : SessionRecord) (free : ℕ) (v : LinkUnit) (lowest : takesRow c ≡ true → (length (u .owners) ≡ rowsN) × (free ≡ firstFree (u .owners)))
+        (row : v ≡ rowStored u (listingOf (positionAt u d) (suc d) free c) (sessionAfter c r)) where
+      abbrev n : Listing
+      n = listingOf (positionAt u d) (suc d) free c
+
+      abbrev s : SessionRecord
+      s = sessionAfter c r
+
+      abbrev moved : Bool → LinkUnit
+      moved b = unitOf (set (u .owners) (n .row) (n .owner)) (set (u .rows) (n .row) s) (cond b (set (u .doors) d (positionOf l (n .count) (n .numbers))) (u .doors))
 
       pub fit-carried : n .fits ≡ true → unitOf (v .owners) (v .rows) (set (v .doors) d (positionOf l (n .count) (n .numbers))) ≡ enactFit u d l (effectOf c r)
-      fit-carried e =
-          ap (λ (w : LinkUnit). unitOf (w .owners) (w .rows) (set (w .doors) d (positionOf l (n .count) (n .numbers)))) row
-          ∙ (ap (λ (b : Bool). unitOf (set (u .owners) (n .row) (n .owner)) (set (u .rows) (n .row) s) (cond b (set (u .doors) d (positionOf l (n .count) (n .numbers))) (u .doors))) (sym e) ∙ all-stored)
+      fit-carried e = ap (λ (w : LinkUnit). unitOf (w .owners) (w .rows) (set (w .doors) d (positionOf l (n .count) (n .numbers)))) row ∙ (ap moved (sym e) ∙ carried c r free lowest)
 
       pub unfit-carried : n .fits ≡ false → v ≡ enactFit u d l (effectOf c r)
-      unfit-carried e =
-          row
-          ∙ (ap (λ (b : Bool). unitOf (set (u .owners) (n .row) (n .owner)) (set (u .rows) (n .row) s) (cond b (set (u .doors) d (positionOf l (n .count) (n .numbers))) (u .doors))) (sym e) ∙ all-stored)
+      unfit-carried e = row ∙ (ap moved (sym e) ∙ carried c r free lowest)
