@@ -2,13 +2,12 @@
 use Prim.Native.Nat.{ℕ, zero, suc}
 use mathlib.Core.Path.{_≡_, refl, sym, _∙_, ap, ap₂}
 use mathlib.Core.List.{List}
-use Rattle.eno.specs.Area.{Status, saysFound, saysNone, saysUnreadable, saysRefused}
 use Rattle.eno.specs.Judge.{Way}
 use Rattle.door.specs.Door.{Phase, idle, offering, crossed, answering, opened, unencrypted, phaseOf, phaseNumber}
 use Rattle.door.specs.Outcome.{Reply, refused, written, plain, nowIn, encrypted, done, holds}
 use Rattle.door.specs.Answers.{secretBeside}
 use Rattle.host_reply.specs.Numbers.{wayOf, way-back}
-use Rattle.host.specs.Replies.{numbersOf, statusNumbers}
+use Rattle.host_numbers.specs.Replies.{numbersOf}
 use Rattle.host_reply.specs.declared.ReplyNumbers.{ReplyNumbers}
 
 phase-back : (p : Phase) → phaseOf (phaseNumber p) ≡ p
@@ -46,29 +45,3 @@ read-back (holds n) = refl
 -- two replies with the same numbers and the same secret are the same
 pub numbers-tell : (x y : Reply) → numbersOf x ≡ numbersOf y → secretBeside x ≡ secretBeside y → x ≡ y
 numbers-tell x y e f = sym (read-back x) ∙ (ap₂ readBack e f ∙ read-back y)
-
--- the finder's word is read back too
-abbrev wordAs : (kind : ℕ) → ReplyNumbers → Status
-wordAs zero r = saysRefused (r .number)
-wordAs (suc zero) r = saysNone
-wordAs (suc (suc zero)) r = saysNone
-wordAs (suc (suc (suc zero))) r = saysNone
-wordAs (suc (suc (suc (suc zero)))) r = saysNone
-wordAs (suc (suc (suc (suc (suc zero))))) r = saysNone
-wordAs (suc (suc (suc (suc (suc (suc zero)))))) r = saysNone
-wordAs (suc (suc (suc (suc (suc (suc (suc zero))))))) r = saysFound
-wordAs (suc (suc (suc (suc (suc (suc (suc (suc zero)))))))) r = saysNone
-wordAs (suc (suc (suc (suc (suc (suc (suc (suc (suc k))))))))) r = saysUnreadable (record { place = r .place; kind = r .option })
-
-abbrev wordBack : ReplyNumbers → Status
-wordBack r = wordAs (r .kind) r
-
-word-back : (x : Status) → wordBack (statusNumbers x) ≡ x
-unfolding statusNumbers
-word-back saysFound = refl
-word-back saysNone = refl
-word-back (saysUnreadable f) = refl
-word-back (saysRefused n) = refl
-
-pub status-tells : (x y : Status) → statusNumbers x ≡ statusNumbers y → x ≡ y
-status-tells x y e = sym (word-back x) ∙ (ap wordBack e ∙ word-back y)
