@@ -3,20 +3,30 @@
  *
  * Link with libdoor_link.a, which `tools/host-library` writes to target/staticlib (x86-64, System V calling convention).
  *
- * THE UNIT is plain data that the host owns. There is no heap, no global, no lock and no thread in the library: it keeps nothing between two calls, and
- * a unit may be copied, moved and kept anywhere. Each call takes a unit by value and gives the unit afterwards back; what was passed in is not changed.
- * The functions `door_link_unit_..` below take a pointer and put the later unit in its place. Two threads must not use one unit at the same time.
- * A unit holds secrets: erase it (door_link_erase) and do not write it to a log. A record that is dropped, forgotten or erased is zeros in the unit
- * afterwards; copies that a compiler leaves on the stack, and older units that the host still holds, are not overwritten. A call needs up to about
- * 70 KB of stack. Make a unit with door_link_new and change it by the calls alone: its
- * bytes are the library's, and some of them must be 0 or 1 (they are C's `bool`), so bytes of the host's own making are undefined behaviour.
+ * THE UNIT is memory that the host owns, a `struct door_link_unit` anywhere it likes, and lends to each call, which changes it in place. There is no heap, no
+ * global, no lock and no thread in the library: it keeps nothing between two calls, no pointer either. door_link_unit_erase makes the empty unit of whatever
+ * bytes the memory has, so a unit begins with it:
  *
- * BYTES go in as a pointer and a length. The library reads input bytes and writes lent buffers during the call alone and keeps no pointer. Three rules, as
- * for memcpy: a pointer is never null, also where its length is 0 (the `door_link_unit_..` functions take null with length 0); all `length` bytes are
- * readable, and those of a lent buffer writable; a lent buffer overlaps no input.
+ *     static struct door_link_unit unit;
+ *     door_link_unit_erase(&unit);
  *
- * A REFUSAL (kind 0) leaves everything as found: the unit afterwards is the same unit and not one byte of the lent buffer is written. Where several numbers
- * apply, the lowest is given. Beyond the bytes that a call reports as written, a lent buffer stays as it was.
+ * Any bytes are a unit: every call is defined for all of them, and for bytes of the host's own making it still changes no byte of another door. A flag is a byte,
+ * 0 not set, anything else set. The calls alone make a unit that means something. Two threads must not use one unit at the same time.
+ *
+ * SECRETS. A unit holds them: do not write it to a log or to memory that outlives the machine's power, and erase it when it is no longer needed, since the
+ * library does not know when that is. A record that is dropped, forgotten or erased is zeros in the unit afterwards. A call leaves no other door's secret on the
+ * stack; of its own door's records it may leave copies there. A call needs less than 4 KB of stack, which hosts/c/stack.c measures.
+ *
+ * COPIES of a unit are the host's: it may move a unit between two calls, and has to overwrite what it leaves behind. Go on from the latest unit alone: an older
+ * copy still holds the session records that were used since, and would propose them again, which RFC 8548, section 3.5, forbids.
+ *
+ * BYTES go in as a pointer and a length. The library reads input bytes and writes lent buffers during the call alone. All `length` bytes are readable, and those
+ * of a lent buffer writable; a lent buffer overlaps neither an input nor the unit, and no input lies in the unit. In the functions `door_link_unit_..` a null
+ * pointer counts as length 0, whatever length stands beside it; what that comes to is said at each call. The library's own calls take no null pointer, also
+ * where the length is 0.
+ *
+ * A REFUSAL (kind 0) leaves everything as found: not one byte of the unit and not one byte of the lent buffer is written. Where several numbers apply, the
+ * lowest is given. Beyond the bytes that a call reports as written, a lent buffer stays as it was.
  *
  * Every bool, number, length and byte is allowed in every argument, and every call ends in one of the replies that are listed at it. */
 #ifndef DOOR_LINK_H
@@ -30,14 +40,21 @@
 extern "C" {
 #endif
 
+/* The number of this header. Each change of a struct, of an export or of a number raises it, and the library exports one name that carries its own,
+ * door_link_abi_1. The inline functions refer to the name with the header's number, so a program that was compiled with another header does not link. */
+#define DOOR_LINK_ABI 1
+
 enum {
     DOOR_LINK_DOORS = 24,       /* doors are 0 to 23 */
     DOOR_LINK_RECORDS = 4,      /* session records that a door may hold */
+    DOOR_LINK_ROWS = 96,        /* rows of the pool, one for each record that may be held */
+    DOOR_LINK_ROW_BYTES = 52,   /* bytes of a row */
+    DOOR_LINK_DOOR_BYTES = 148, /* bytes of a door */
+    DOOR_LINK_UNIT = 8640,      /* bytes of a unit */
     DOOR_LINK_OPTION = 40,      /* a buffer of this length is long enough for any option */
     DOOR_LINK_TRANSCRIPT = 80,  /* and one of this length for any transcript */
     DOOR_LINK_IDENTIFIER = 18,  /* bytes of a session's identifier */
-    DOOR_LINK_SECRET = 32,      /* bytes of a session's secret */
-    DOOR_LINK_UNIT = 8640       /* bytes of a unit */
+    DOOR_LINK_SECRET = 32       /* bytes of a session's secret */
 };
 
 /* The TEPs (encryption protocols) that the unit knows, without the bit v (0x80). */
@@ -87,7 +104,9 @@ enum {
 
 /* All doors and the pool. The bytes are the library's. */
 struct door_link_unit {
-    uint8_t bytes[DOOR_LINK_UNIT];
+    uint8_t owners[DOOR_LINK_ROWS];
+    uint8_t rows[DOOR_LINK_ROWS][DOOR_LINK_ROW_BYTES];
+    uint8_t doors[DOOR_LINK_DOORS][DOOR_LINK_DOOR_BYTES];
 };
 
 /* A reply in plain numbers. What a kind of reply does not have is 0. */
@@ -101,172 +120,194 @@ struct door_link_reply {
     uint8_t option;  /* and its kind byte, 2 to 255. Its length byte is absent, below 2, or beyond the area's end. */
 };
 
-/* What a call gives back. */
-struct door_link_step {
-    struct door_link_unit unit; /* the unit afterwards */
-    struct door_link_reply reply;
-};
-
 /* What door_link_result gives back. */
-struct door_link_result_step {
-    struct door_link_unit unit;
+struct door_link_result_reply {
     struct door_link_reply reply;
     uint8_t secret[DOOR_LINK_SECRET]; /* zeros unless a session is resumed */
 };
 
-/* The empty unit: every door Idle, no session record. */
-struct door_link_unit door_link_new(void);
+/* Whether a TCP option area, 0 to 40 bytes, has an ENO option; syn says whether it is a SYN's, where two of them count as none. `area` is not null.
+ * Replies: FOUND; NONE; BROKEN with place and option where the area is unreadable. Refused: 2. */
+struct door_link_reply door_link_find_status(const uint8_t *area, size_t area_length, bool syn);
+
+/* ---- The library's calls of the unit. A host calls the functions behind them, which hand on the arrays of a unit and take null. An array that is const here is
+ * not changed by the call. ---- */
+
+struct door_link_reply door_link_erase(uint8_t *owners, uint8_t (*rows)[DOOR_LINK_ROW_BYTES], uint8_t (*doors)[DOOR_LINK_DOOR_BYTES]);
+
+struct door_link_reply door_link_offer(uint8_t *owners, uint8_t (*rows)[DOOR_LINK_ROW_BYTES], uint8_t (*doors)[DOOR_LINK_DOOR_BYTES], size_t door, uint8_t b,
+                                       bool aware, bool mandatory, const uint8_t *teps, size_t teps_length, bool resume, const uint8_t *nonce,
+                                       size_t nonce_length, uint8_t *out, size_t out_length);
+
+struct door_link_reply door_link_answer(uint8_t *owners, uint8_t (*rows)[DOOR_LINK_ROW_BYTES], uint8_t (*doors)[DOOR_LINK_DOOR_BYTES], size_t door,
+                                        const uint8_t *area, size_t area_length, bool aware, bool mandatory, const uint8_t *teps, size_t teps_length,
+                                        const uint8_t *nonce, size_t nonce_length, uint8_t *out, size_t out_length);
+
+struct door_link_reply door_link_receive(const uint8_t *owners, const uint8_t (*rows)[DOOR_LINK_ROW_BYTES], uint8_t (*doors)[DOOR_LINK_DOOR_BYTES],
+                                         size_t door, bool syn, bool ack, const uint8_t *area, size_t area_length);
+
+struct door_link_reply door_link_resend(const uint8_t *owners, const uint8_t (*rows)[DOOR_LINK_ROW_BYTES], const uint8_t (*doors)[DOOR_LINK_DOOR_BYTES],
+                                        size_t door, uint8_t *out, size_t out_length);
+
+struct door_link_result_reply door_link_result(const uint8_t *owners, const uint8_t (*rows)[DOOR_LINK_ROW_BYTES],
+                                               const uint8_t (*doors)[DOOR_LINK_DOOR_BYTES], size_t door, uint8_t *out, size_t out_length);
+
+struct door_link_reply door_link_close(const uint8_t *owners, const uint8_t (*rows)[DOOR_LINK_ROW_BYTES], uint8_t (*doors)[DOOR_LINK_DOOR_BYTES],
+                                       size_t door);
+
+struct door_link_reply door_link_store(uint8_t *owners, uint8_t (*rows)[DOOR_LINK_ROW_BYTES], uint8_t (*doors)[DOOR_LINK_DOOR_BYTES], size_t door,
+                                       uint8_t tep, uint8_t role, const uint8_t *identifier, size_t identifier_length, const uint8_t *secret,
+                                       size_t secret_length);
+
+struct door_link_reply door_link_forget(uint8_t *owners, uint8_t (*rows)[DOOR_LINK_ROW_BYTES], uint8_t (*doors)[DOOR_LINK_DOOR_BYTES], size_t door,
+                                        uint8_t tep, const uint8_t *identifier, size_t identifier_length);
+
+struct door_link_reply door_link_count(const uint8_t *owners, const uint8_t (*rows)[DOOR_LINK_ROW_BYTES], const uint8_t (*doors)[DOOR_LINK_DOOR_BYTES],
+                                       size_t door);
+
+/* Gives 1. It is there for its name: see DOOR_LINK_ABI. */
+size_t door_link_abi_1(void);
+
+/* The bytes of a unit, DOOR_LINK_UNIT, for hosts that do not compile this header. */
+size_t door_link_unit_size(void);
+
+/* ---- What the functions below use. ---- */
+
+#define DOOR_LINK_TEXT_OF(number) #number
+#define DOOR_LINK_TEXT(number) DOOR_LINK_TEXT_OF(number)
+
+/* Refers to the library's export of this header's number, in an instruction that does nothing: the linker has to find the name, and the processor neither reads nor
+ * jumps there. The compiler does not look into the text and does not drop it. It stands in each function below, so it goes where they go: a program that calls none
+ * of them needs no library. (A relocation that writes nothing, R_X86_64_NONE, would not do: newer linkers pass over the name.) */
+static inline void door_link_abi(void) { __asm__ volatile("nopl door_link_abi_" DOOR_LINK_TEXT(DOOR_LINK_ABI) "@PLT(%rip)"); }
+
+/* Null counts as length 0. */
+static inline size_t door_link_length(const uint8_t *bytes, size_t length) { return bytes ? length : 0; }
+
+/* The library takes no null pointer: in its place goes one to a byte that is not read. */
+static inline const uint8_t *door_link_bytes(const uint8_t *bytes) {
+    static const uint8_t none[1] = {0};
+    return bytes ? bytes : none;
+}
+
+/* ---- The unit's calls. `unit` is not null; it is const where the call changes nothing. ---- */
+
+/* Makes the empty unit of whatever bytes stand there: every door Idle, no session record, every byte 0.
+ * Replies: DONE. Never refused. */
+static inline struct door_link_reply door_link_unit_erase(struct door_link_unit *unit) {
+    door_link_abi();
+    return door_link_erase(unit->owners, unit->rows, unit->doors);
+}
 
 /* An active open, or one that may cross with the other side's: writes this end's ENO option, to be put into the SYN's option area. In Idle; Offered then.
  *   b          this end's role: 0 host A (the usual active opener), 1 host B
  *   aware      the application-aware bit a
  *   mandatory  plain TCP unless the other side is aware too
- *   teps       one to four TEPs in rising priority
+ *   teps       one to four TEPs in rising priority; null is an empty list, refused with 3
  *   resume     whether to propose the oldest session record that the door holds of a listed TEP. That record leaves the pool for good.
- *   nonce      0 to 8 bytes for the resumption, never used before with that session
- *   out        lent; 24 bytes are always enough
+ *   nonce      0 to 8 bytes for the resumption, never used before with that session; null is an empty one
+ *   out        lent; 24 bytes are always enough; null is refused with 5
  * Replies: WRITTEN.
  * Refused: 1; 3 where b is above 1, teps is empty, above four, repeated or unknown, nonce is above 8 bytes, or mandatory without aware; 4 not Idle; 5. */
-struct door_link_step door_link_offer(struct door_link_unit unit, size_t door, uint8_t b, bool aware, bool mandatory, const uint8_t *teps,
-                                      size_t teps_length, bool resume, const uint8_t *nonce, size_t nonce_length, uint8_t *out, size_t out_length);
+static inline struct door_link_reply door_link_unit_offer(struct door_link_unit *unit, size_t door, uint8_t b, bool aware, bool mandatory,
+                                                          const uint8_t *teps, size_t teps_length, bool resume, const uint8_t *nonce,
+                                                          size_t nonce_length, uint8_t *out, size_t out_length) {
+    uint8_t none[1];
+    door_link_abi();
+    return door_link_offer(unit->owners, unit->rows, unit->doors, door, b, aware, mandatory, door_link_bytes(teps), door_link_length(teps, teps_length),
+                           resume, door_link_bytes(nonce), door_link_length(nonce, nonce_length), out ? out : none, door_link_length(out, out_length));
+}
 
 /* A passive open: takes the TCP option area of a received SYN, chooses a TEP, and writes this end's ENO option for the SYN+ACK; or ends in plain TCP,
  * writes nothing and moves no record. In Idle; Answered or Plain then. A session record that the door holds is resumed where the SYN proposes it.
- *   area       option area of the SYN, 0 to 40 bytes, not only the ENO option
- *   aware, mandatory, teps, nonce, out   as for door_link_offer; 21 bytes are always enough
+ *   area       option area of the SYN, 0 to 40 bytes, not only the ENO option; null is an empty one: PLAIN with reason 2
+ *   aware, mandatory, teps, nonce, out   as for door_link_unit_offer; 21 bytes are always enough
  * Replies: WRITTEN; PLAIN with reason 1 to 6.
  * Refused: 1; 2; 3 where teps is empty, above four, repeated or unknown, nonce is above 8 bytes, or mandatory without aware; 4 not Idle; 5. */
-struct door_link_step door_link_answer(struct door_link_unit unit, size_t door, const uint8_t *area, size_t area_length, bool aware, bool mandatory,
-                                       const uint8_t *teps, size_t teps_length, const uint8_t *nonce, size_t nonce_length, uint8_t *out, size_t out_length);
+static inline struct door_link_reply door_link_unit_answer(struct door_link_unit *unit, size_t door, const uint8_t *area, size_t area_length, bool aware,
+                                                           bool mandatory, const uint8_t *teps, size_t teps_length, const uint8_t *nonce,
+                                                           size_t nonce_length, uint8_t *out, size_t out_length) {
+    uint8_t none[1];
+    door_link_abi();
+    return door_link_answer(unit->owners, unit->rows, unit->doors, door, door_link_bytes(area), door_link_length(area, area_length), aware, mandatory,
+                            door_link_bytes(teps), door_link_length(teps, teps_length), door_link_bytes(nonce), door_link_length(nonce, nonce_length),
+                            out ? out : none, door_link_length(out, out_length));
+}
 
-/* A received segment: its flags SYN and ACK and its option area, 0 to 40 bytes.
+/* A received segment: its flags SYN and ACK and its option area, 0 to 40 bytes; null is an empty area, which has no option.
  *   Offered   SYN+ACK: Open or Plain. SYN alone: Crossed or Plain.
  *   Crossed   SYN+ACK: Open with the same option as before, else Plain. ACK alone: Open with an ENO option, else Plain.
  *   Answered  SYN alone: no change with the same option as before, else Plain. ACK alone: Open with an ENO option, else Plain.
  *   Open, Plain  any segment: no change.
  * Replies: NOW with the phase where it is not Plain; PLAIN with its reason, 1 to 7, in Plain as it was given before.
  * Refused: 1; 2; 4 for anything else, Idle included. */
-struct door_link_step door_link_receive(struct door_link_unit unit, size_t door, bool syn, bool ack, const uint8_t *area, size_t area_length);
+static inline struct door_link_reply door_link_unit_receive(struct door_link_unit *unit, size_t door, bool syn, bool ack, const uint8_t *area,
+                                                            size_t area_length) {
+    const struct door_link_unit *kept = unit;
+    door_link_abi();
+    return door_link_receive(kept->owners, kept->rows, unit->doors, door, syn, ack, door_link_bytes(area), door_link_length(area, area_length));
+}
 
-/* Writes the option that this end sent once more, for a retransmission. Changes nothing.
+/* Writes the option that this end sent once more, for a retransmission; a null `out` is refused with 5. Changes nothing.
  * Replies: WRITTEN. Refused: 1; 4 where the door is not Offered, Crossed or Answered; 5. */
-struct door_link_step door_link_resend(struct door_link_unit unit, size_t door, uint8_t *out, size_t out_length);
+static inline struct door_link_reply door_link_unit_resend(const struct door_link_unit *unit, size_t door, uint8_t *out, size_t out_length) {
+    uint8_t none[1];
+    door_link_abi();
+    return door_link_resend(unit->owners, unit->rows, unit->doors, door, out ? out : none, door_link_length(out, out_length));
+}
 
 /* What the connection is. Changes nothing and may be asked again.
- * Open: ENCRYPTED, with role, TEP byte and way; writes the transcript (host A's option, then host B's) to out, which 80 bytes always hold; `secret` is the
- * session's where it is resumed. The original role and the nonces of a resumed session are not given: they stand in the transcript.
- * Plain: PLAIN with its reason, and place and option with reason 1; nothing is written.
+ * Open: ENCRYPTED, with role, TEP byte and way; writes the transcript (host A's option, then host B's) to out, which 80 bytes always hold; a null `out` is refused
+ * with 5. The original role and the nonces of a resumed session are not given: they stand in the transcript.
+ * Plain: PLAIN with its reason, and place and option with reason 1; nothing is written to out.
+ *   secret     lent, 32 bytes, and always written: the session's secret where one is resumed, else zeros; null where the host does not want it
  * Refused: 1; 4 where the door is neither Open nor Plain; 5 in Open. */
-struct door_link_result_step door_link_result(struct door_link_unit unit, size_t door, uint8_t *out, size_t out_length);
+static inline struct door_link_reply door_link_unit_result(const struct door_link_unit *unit, size_t door, uint8_t *out, size_t out_length,
+                                                           uint8_t *secret) {
+    uint8_t none[1];
+    door_link_abi();
+    struct door_link_result_reply told =
+        door_link_result(unit->owners, unit->rows, unit->doors, door, out ? out : none, door_link_length(out, out_length));
+    if (secret)
+        for (size_t i = 0; i < DOOR_LINK_SECRET; i++) secret[i] = told.secret[i];
+    return told.reply;
+}
 
 /* The connection is over: Idle, from any phase. A record in hand is dropped and overwritten; those that the door holds stay.
  * Replies: DONE. Refused: 1. */
-struct door_link_step door_link_close(struct door_link_unit unit, size_t door);
+static inline struct door_link_reply door_link_unit_close(struct door_link_unit *unit, size_t door) {
+    const struct door_link_unit *kept = unit;
+    door_link_abi();
+    return door_link_close(kept->owners, kept->rows, unit->doors, door);
+}
 
 /* Adds a session record to a door, as its newest; any phase.
  *   tep         without v
  *   role        this end's role in the connection that made the session, 0 host A, 1 host B
- *   identifier  18 bytes: host A sends the first nine of them, host B the last nine
- *   secret      32 bytes
+ *   identifier  18 bytes: host A sends the first nine of them, host B the last nine; null is refused with 3
+ *   secret      32 bytes; null is refused with 3
  * The same secret must not be stored again once its record was taken: that is for the host to see to.
  * Replies: DONE. Refused: 1; 3 where tep is unknown, role is above 1, or a length is another; 6; 7. */
-struct door_link_step door_link_store(struct door_link_unit unit, size_t door, uint8_t tep, uint8_t role, const uint8_t *identifier,
-                                      size_t identifier_length, const uint8_t *secret, size_t secret_length);
+static inline struct door_link_reply door_link_unit_store(struct door_link_unit *unit, size_t door, uint8_t tep, uint8_t role, const uint8_t *identifier,
+                                                          size_t identifier_length, const uint8_t *secret, size_t secret_length) {
+    door_link_abi();
+    return door_link_store(unit->owners, unit->rows, unit->doors, door, tep, role, door_link_bytes(identifier),
+                           door_link_length(identifier, identifier_length), door_link_bytes(secret), door_link_length(secret, secret_length));
+}
 
-/* Removes a session record from a door and overwrites it; any phase. A record in hand, or at another door, is not held here.
+/* Removes a session record from a door and overwrites it; any phase. A record in hand, or at another door, is not held here. A null identifier is refused with 3.
  * Replies: DONE. Refused: 1; 3 where tep is unknown or identifier is not 18 bytes; 16. */
-struct door_link_step door_link_forget(struct door_link_unit unit, size_t door, uint8_t tep, const uint8_t *identifier, size_t identifier_length);
+static inline struct door_link_reply door_link_unit_forget(struct door_link_unit *unit, size_t door, uint8_t tep, const uint8_t *identifier,
+                                                           size_t identifier_length) {
+    door_link_abi();
+    return door_link_forget(unit->owners, unit->rows, unit->doors, door, tep, door_link_bytes(identifier), door_link_length(identifier, identifier_length));
+}
 
 /* How many session records a door holds; one in hand is not counted. Changes nothing.
  * Replies: HOLDS. Refused: 1. */
-struct door_link_step door_link_count(struct door_link_unit unit, size_t door);
-
-/* Empties the whole unit: all records, all doors. Replies: DONE. */
-struct door_link_step door_link_erase(struct door_link_unit unit);
-
-/* Whether a TCP option area, 0 to 40 bytes, has an ENO option; syn says whether it is a SYN's, where two of them count as none.
- * Replies: FOUND; NONE; BROKEN with place and option where the area is unreadable. Refused: 2. */
-struct door_link_reply door_link_find_status(const uint8_t *area, size_t area_length, bool syn);
-
-/* The same calls with the unit behind a pointer: *unit is the unit before, and the unit afterwards when the call returns. Null is allowed for bytes of
- * length 0. */
-
-static inline const uint8_t *door_link_bytes(const uint8_t *bytes) {
-    static const uint8_t none[1] = {0};
-    return bytes ? bytes : none;
-}
-
-static inline struct door_link_reply door_link_unit_offer(struct door_link_unit *unit, size_t door, uint8_t b, bool aware, bool mandatory,
-                                                          const uint8_t *teps, size_t teps_length, bool resume, const uint8_t *nonce,
-                                                          size_t nonce_length, uint8_t *out, size_t out_length) {
-    uint8_t none[1];
-    struct door_link_step step = door_link_offer(*unit, door, b, aware, mandatory, door_link_bytes(teps), teps_length, resume, door_link_bytes(nonce),
-                                                 nonce_length, out ? out : none, out_length);
-    *unit = step.unit;
-    return step.reply;
-}
-
-static inline struct door_link_reply door_link_unit_answer(struct door_link_unit *unit, size_t door, const uint8_t *area, size_t area_length, bool aware,
-                                                           bool mandatory, const uint8_t *teps, size_t teps_length, const uint8_t *nonce,
-                                                           size_t nonce_length, uint8_t *out, size_t out_length) {
-    uint8_t none[1];
-    struct door_link_step step = door_link_answer(*unit, door, door_link_bytes(area), area_length, aware, mandatory, door_link_bytes(teps), teps_length,
-                                                  door_link_bytes(nonce), nonce_length, out ? out : none, out_length);
-    *unit = step.unit;
-    return step.reply;
-}
-
-static inline struct door_link_reply door_link_unit_receive(struct door_link_unit *unit, size_t door, bool syn, bool ack, const uint8_t *area,
-                                                            size_t area_length) {
-    struct door_link_step step = door_link_receive(*unit, door, syn, ack, door_link_bytes(area), area_length);
-    *unit = step.unit;
-    return step.reply;
-}
-
-/* resend, result and count change nothing, so the unit stays where it is. */
-static inline struct door_link_reply door_link_unit_resend(const struct door_link_unit *unit, size_t door, uint8_t *out, size_t out_length) {
-    uint8_t none[1];
-    return door_link_resend(*unit, door, out ? out : none, out_length).reply;
-}
-
-/* secret: lent, 32 bytes. */
-static inline struct door_link_reply door_link_unit_result(const struct door_link_unit *unit, size_t door, uint8_t *out, size_t out_length,
-                                                           uint8_t secret[DOOR_LINK_SECRET]) {
-    uint8_t none[1];
-    struct door_link_result_step step = door_link_result(*unit, door, out ? out : none, out_length);
-    for (size_t i = 0; i < DOOR_LINK_SECRET; i++) secret[i] = step.secret[i];
-    return step.reply;
-}
-
-static inline struct door_link_reply door_link_unit_close(struct door_link_unit *unit, size_t door) {
-    struct door_link_step step = door_link_close(*unit, door);
-    *unit = step.unit;
-    return step.reply;
-}
-
-static inline struct door_link_reply door_link_unit_store(struct door_link_unit *unit, size_t door, uint8_t tep, uint8_t role, const uint8_t *identifier,
-                                                          size_t identifier_length, const uint8_t *secret, size_t secret_length) {
-    struct door_link_step step =
-        door_link_store(*unit, door, tep, role, door_link_bytes(identifier), identifier_length, door_link_bytes(secret), secret_length);
-    *unit = step.unit;
-    return step.reply;
-}
-
-static inline struct door_link_reply door_link_unit_forget(struct door_link_unit *unit, size_t door, uint8_t tep, const uint8_t *identifier,
-                                                           size_t identifier_length) {
-    struct door_link_step step = door_link_forget(*unit, door, tep, door_link_bytes(identifier), identifier_length);
-    *unit = step.unit;
-    return step.reply;
-}
-
 static inline struct door_link_reply door_link_unit_count(const struct door_link_unit *unit, size_t door) {
-    return door_link_count(*unit, door).reply;
-}
-
-static inline struct door_link_reply door_link_unit_erase(struct door_link_unit *unit) {
-    struct door_link_step step = door_link_erase(*unit);
-    *unit = step.unit;
-    return step.reply;
+    door_link_abi();
+    return door_link_count(unit->owners, unit->rows, unit->doors, door);
 }
 
 #ifdef __cplusplus

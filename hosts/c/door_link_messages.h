@@ -6,7 +6,7 @@
  * THE HOST'S PART is all of the cryptography: public keys, key agreement, the keys of each generation, fixed nonces, ciphering and tags, and random numbers.
  * These calls lay out and read the bytes around it.
  *
- * THE TEP: door_link_result gives the TEP byte as host B sent it, perhaps with v (0x80). Mask it with 0x7f before an Init call, which refuses 0xa3 with 3. */
+ * THE TEP: door_link_unit_result gives the TEP byte as host B sent it, perhaps with v (0x80). Mask it with 0x7f before an Init call, which refuses 0xa3 with 3. */
 #ifndef DOOR_LINK_MESSAGES_H
 #define DOOR_LINK_MESSAGES_H
 
@@ -194,18 +194,21 @@ struct door_link_generation_step door_link_receive_frame(struct door_link_genera
 /* The same steps with the record behind a pointer: *g is the record before, and the record afterwards when the call returns. */
 
 static inline struct door_link_generation_step door_link_generations_send(struct door_link_generations *g, bool fin) {
+    door_link_abi();
     struct door_link_generation_step step = door_link_send(*g, fin);
     *g = step.next;
     return step;
 }
 
 static inline struct door_link_generation_step door_link_generations_initiate(struct door_link_generations *g, bool has_data, bool fin) {
+    door_link_abi();
     struct door_link_generation_step step = door_link_initiate(*g, has_data, fin);
     *g = step.next;
     return step;
 }
 
 static inline struct door_link_generation_step door_link_generations_receive(struct door_link_generations *g, bool rekey) {
+    door_link_abi();
     struct door_link_generation_step step = door_link_receive_frame(*g, rekey);
     *g = step.next;
     return step;
@@ -213,7 +216,7 @@ static inline struct door_link_generation_step door_link_generations_receive(str
 
 /* ---- The judge: for captures, diagnosis and benchmarks. A door's calls use it inside. ---- */
 
-/* A session record, as door_link_store takes it. */
+/* A session record, as door_link_unit_store takes it. */
 struct door_link_session {
     uint8_t tep;
     uint8_t role; /* this end's in the connection that made the session: 0 host A, else host B */
@@ -228,7 +231,7 @@ struct door_link_hand {
 };
 
 struct door_link_judgement {
-    struct door_link_reply reply;               /* as door_link_result's */
+    struct door_link_reply reply;               /* as door_link_unit_result's */
     uint8_t transcript[DOOR_LINK_TRANSCRIPT];   /* host A's option, then host B's; zeros behind them, and where there is no transcript */
 };
 

@@ -187,8 +187,9 @@ static void exchange_frames(struct end *a, struct end *b) {
 int main(void) {
     static const uint8_t tep = DOOR_LINK_CURVE25519;
     static const uint8_t zeros[DOOR_LINK_SECRET] = {0};
-    struct end active = {.unit = door_link_new(), .door = 0};
-    struct end passive = {.unit = door_link_new(), .door = 23};
+    static struct end active = {.door = 0}, passive = {.door = 23};
+    door_link_unit_erase(&active.unit);
+    door_link_unit_erase(&passive.unit);
     uint8_t identifier[DOOR_LINK_IDENTIFIER], secret[DOOR_LINK_SECRET];
     for (size_t i = 0; i < sizeof identifier; i++) identifier[i] = (uint8_t)(0x40 + i);
     for (size_t i = 0; i < sizeof secret; i++) secret[i] = (uint8_t)(0xc0 + i);
@@ -262,9 +263,9 @@ int main(void) {
     EXPECT(blames(door_link_find_status(cut_off, 3, true), DOOR_LINK_BROKEN, 0, 1, 0x45));
     EXPECT(says(door_link_find_status(area, sizeof area, false), DOOR_LINK_REFUSED, DOOR_LINK_AREA_TOO_LONG));
 
-    /* Erased: as it was made. */
-    struct door_link_unit empty = door_link_new();
-    EXPECT(says(door_link_unit_erase(&active.unit), DOOR_LINK_DONE, 0));
-    EXPECT(memcmp(&empty, &active.unit, sizeof empty) == 0);
+    /* Erased when they are no longer needed: zeros, and no record is left. */
+    static const struct door_link_unit empty;
+    EXPECT(says(door_link_unit_erase(&active.unit), DOOR_LINK_DONE, 0) && says(door_link_unit_erase(&passive.unit), DOOR_LINK_DONE, 0));
+    EXPECT(memcmp(&empty, &active.unit, sizeof empty) == 0 && memcmp(&empty, &passive.unit, sizeof empty) == 0);
     return failures ? 1 : 0;
 }

@@ -1,75 +1,38 @@
 /* The structs of door_link.h and door_link_messages.h against the library's: sizes and offsets as the compiler lays out the fields that the library declares (crates
- * eno, door, unit, generation and host, each `#[repr(C)]`), a unit read through these fields after a few calls, and replies whose fields all differ. Silent where
- * all agree. A host needs none of this. */
-#include "door_link.h"
+ * eno, generation and host, each `#[repr(C)]`), the unit's bytes as crate unit_bytes lays them out, read after a few calls, and replies whose fields all differ.
+ * Silent where all agree. A host needs none of this. */
+#include "layout.h"
 
 #include <stdio.h>
 #include <string.h>
-
-struct session_record {
-    uint8_t tep;
-    uint8_t role;
-    uint8_t identifier[18];
-    uint8_t secret[32];
-};
 
 struct in_hand {
     bool held;
     struct session_record session;
 };
 
-struct cause {
-    uint8_t reason;
-    uint8_t place;
-    uint8_t kind;
-};
-
-struct door {
-    uint8_t phase;
-    bool mandatory;
-    struct cause cause;
-    uint8_t role;
-    uint8_t tep;
-    bool resumed;
-    uint8_t own_length;
-    uint8_t peer_length;
-    uint8_t own[40];
-    uint8_t peer[40];
-    struct in_hand hand;
-};
-
-struct position {
-    struct door door;
-    uint8_t count;
-    uint8_t rows[4];
-};
-
-struct unit {
-    uint8_t owners[96];
-    struct session_record rows[96];
-    struct position doors[24];
-};
-
 _Static_assert(sizeof(bool) == 1 && sizeof(size_t) == 8, "numbers");
 _Static_assert(sizeof(struct session_record) == 52 && _Alignof(struct session_record) == 1, "a session record");
 _Static_assert(offsetof(struct session_record, identifier) == 2 && offsetof(struct session_record, secret) == 20, "a session record's fields");
 _Static_assert(sizeof(struct in_hand) == 53 && offsetof(struct in_hand, session) == 1, "a record in hand");
-_Static_assert(sizeof(struct cause) == 3 && _Alignof(struct cause) == 1, "a cause");
-_Static_assert(sizeof(struct door) == 143 && offsetof(struct door, cause) == 2 && offsetof(struct door, role) == 5, "a door");
-_Static_assert(offsetof(struct door, own) == 10 && offsetof(struct door, peer) == 50 && offsetof(struct door, hand) == 90, "a door's fields");
-_Static_assert(sizeof(struct position) == 148 && offsetof(struct position, count) == 143 && offsetof(struct position, rows) == 144, "a door in the unit");
+_Static_assert(sizeof(struct door) == 148 && _Alignof(struct door) == 1, "a door");
+_Static_assert(offsetof(struct door, mandatory) == 1 && offsetof(struct door, reason) == 2 && offsetof(struct door, role) == 5, "a door's numbers");
+_Static_assert(offsetof(struct door, resumed) == 7 && offsetof(struct door, held) == 10 && offsetof(struct door, rows) == 14, "a door's numbers");
+_Static_assert(offsetof(struct door, own) == 18 && offsetof(struct door, peer) == 58, "a door's options");
+_Static_assert(offsetof(struct door, hand_identifier) == 98 && offsetof(struct door, hand_secret) == 116, "a door's record in hand");
 _Static_assert(sizeof(struct unit) == 8640 && _Alignof(struct unit) == 1, "a unit");
 _Static_assert(offsetof(struct unit, rows) == 96 && offsetof(struct unit, doors) == 5088, "a unit's fields");
 
 _Static_assert(sizeof(struct door_link_unit) == sizeof(struct unit) && _Alignof(struct door_link_unit) == 1, "the header's unit");
+_Static_assert(sizeof(struct door_link_unit) == DOOR_LINK_UNIT && offsetof(struct door_link_unit, owners) == 0, "the header's unit: its size, owners");
+_Static_assert(offsetof(struct door_link_unit, rows) == 96 && offsetof(struct door_link_unit, doors) == 5088, "the header's unit: rows, doors");
 _Static_assert(sizeof(struct door_link_reply) == 16 && _Alignof(struct door_link_reply) == 8, "the header's reply");
 _Static_assert(offsetof(struct door_link_reply, number) == 0 && offsetof(struct door_link_reply, kind) == 8, "the header's reply: number, kind");
 _Static_assert(offsetof(struct door_link_reply, role) == 9 && offsetof(struct door_link_reply, tep) == 10, "the header's reply: role, tep");
 _Static_assert(offsetof(struct door_link_reply, resumed) == 11, "the header's reply: resumed");
 _Static_assert(offsetof(struct door_link_reply, place) == 12 && offsetof(struct door_link_reply, option) == 13, "the header's reply: place, option");
-_Static_assert(sizeof(struct door_link_step) == 8656 && offsetof(struct door_link_step, reply) == 8640, "the header's step");
-_Static_assert(sizeof(struct door_link_result_step) == 8688 && offsetof(struct door_link_result_step, reply) == 8640, "the header's result");
-_Static_assert(offsetof(struct door_link_result_step, secret) == 8656, "the header's result: secret");
+_Static_assert(sizeof(struct door_link_result_reply) == 48 && _Alignof(struct door_link_result_reply) == 8, "the header's result");
+_Static_assert(offsetof(struct door_link_result_reply, reply) == 0 && offsetof(struct door_link_result_reply, secret) == 16, "the header's result's fields");
 
 _Static_assert(sizeof(struct door_link_init_reply) == 112 && _Alignof(struct door_link_init_reply) == 8, "an Init message");
 _Static_assert(offsetof(struct door_link_init_reply, number) == 0 && offsetof(struct door_link_init_reply, count) == 8, "an Init message: number, count");
@@ -249,8 +212,8 @@ static bool blames(struct door_link_reply reply, uint8_t kind, size_t number, co
 static void stays(struct door_link_unit *unit, size_t door, struct door_link_reply reply, const struct broken *broken) {
     uint8_t out[80], secret[32];
     EXPECT(blames(reply, DOOR_LINK_PLAIN, DOOR_LINK_UNREADABLE, broken));
-    const struct cause cause = seen(unit).doors[door].door.cause;
-    EXPECT(cause.reason == DOOR_LINK_UNREADABLE && cause.place == broken->place && cause.kind == broken->option);
+    const struct door at = seen(unit).doors[door];
+    EXPECT(at.reason == DOOR_LINK_UNREADABLE && at.place == broken->place && at.kind == broken->option);
     EXPECT(blames(door_link_unit_receive(unit, door, true, false, NULL, 0), DOOR_LINK_PLAIN, DOOR_LINK_UNREADABLE, broken));
     for (int i = 0; i < 2; i++)
         EXPECT(blames(door_link_unit_result(unit, door, out, sizeof out, secret), DOOR_LINK_PLAIN, DOOR_LINK_UNREADABLE, broken));
@@ -271,7 +234,8 @@ static void places(void) {
     };
     memset(all[4].area, 1, 39);
     all[4].area[39] = 0x45;
-    struct door_link_unit unit = door_link_new();
+    struct door_link_unit unit;
+    door_link_unit_erase(&unit);
     uint8_t out[40];
     const size_t door = 21;
     for (size_t i = 0; i < sizeof all / sizeof all[0]; i++) {
@@ -314,13 +278,16 @@ static void places(void) {
 int main(void) {
     static const uint8_t teps[2] = {0x21, 0x24};
     static const uint8_t nonce[3] = {7, 8, 9};
-    struct door_link_unit unit = door_link_new();
+    struct door_link_unit unit;
     uint8_t identifier[18], secret[32], out[40], area[40];
     for (size_t i = 0; i < 18; i++) identifier[i] = (uint8_t)(0x80 + i);
     for (size_t i = 0; i < 32; i++) secret[i] = (uint8_t)(0x20 + i);
 
-    /* An empty unit is zeros. */
-    for (size_t i = 0; i < sizeof unit; i++) EXPECT(unit.bytes[i] == 0);
+    /* The empty unit is zeros, whatever the memory held. */
+    memset(&unit, 0xee, sizeof unit);
+    door_link_unit_erase(&unit);
+    EXPECT(all_zero((const uint8_t *)&unit, sizeof unit));
+    EXPECT(door_link_abi_1() == DOOR_LINK_ABI && door_link_unit_size() == sizeof unit);
 
     /* The second record's row, and its number at the door. */
     EXPECT(door_link_unit_store(&unit, 22, 0x23, 0, identifier, 18, secret, 32).kind == DOOR_LINK_DONE);
@@ -329,33 +296,33 @@ int main(void) {
     EXPECT(u.owners[0] == 23 && u.owners[1] == 24 && u.owners[2] == 0);
     EXPECT(u.rows[1].tep == 0x24 && u.rows[1].role == 1);
     EXPECT(memcmp(u.rows[1].identifier, identifier, 18) == 0 && memcmp(u.rows[1].secret, secret, 32) == 0);
-    EXPECT(u.doors[23].count == 1 && u.doors[23].rows[0] == 1 && u.doors[23].door.phase == DOOR_LINK_IDLE);
+    EXPECT(u.doors[23].count == 1 && u.doors[23].rows[0] == 1 && u.doors[23].phase == DOOR_LINK_IDLE);
 
     /* Offered with that record in hand. */
     struct door_link_reply reply = door_link_unit_offer(&unit, 23, 0, true, true, teps, 2, true, nonce, 3, out, sizeof out);
     EXPECT(reply.kind == DOOR_LINK_WRITTEN && reply.number == 17);
     u = seen(&unit);
     EXPECT(u.owners[1] == 0 && u.rows[1].tep == 0 && u.doors[23].count == 0);
-    EXPECT(u.doors[23].door.phase == DOOR_LINK_OFFERED && u.doors[23].door.mandatory);
-    EXPECT(u.doors[23].door.own_length == 17 && memcmp(u.doors[23].door.own, out, 17) == 0);
-    EXPECT(u.doors[23].door.hand.held && u.doors[23].door.hand.session.tep == 0x24 && u.doors[23].door.hand.session.role == 1);
-    EXPECT(memcmp(u.doors[23].door.hand.session.identifier, identifier, 18) == 0);
-    EXPECT(memcmp(u.doors[23].door.hand.session.secret, secret, 32) == 0);
+    EXPECT(u.doors[23].phase == DOOR_LINK_OFFERED && u.doors[23].mandatory == 1);
+    EXPECT(u.doors[23].own_length == 17 && memcmp(u.doors[23].own, out, 17) == 0);
+    EXPECT(u.doors[23].held == 1 && u.doors[23].hand_tep == 0x24 && u.doors[23].hand_role == 1);
+    EXPECT(memcmp(u.doors[23].hand_identifier, identifier, 18) == 0);
+    EXPECT(memcmp(u.doors[23].hand_secret, secret, 32) == 0);
 
     /* Open: the other side answers with the half that this end expects. */
     memcpy(area, "\x45\x0d\x03\xa4", 4);
     memcpy(area + 4, identifier, 9);
     EXPECT(door_link_unit_receive(&unit, 23, true, true, area, 13).number == DOOR_LINK_OPEN);
     u = seen(&unit);
-    EXPECT(u.doors[23].door.phase == DOOR_LINK_OPEN && u.doors[23].door.role == 0 && u.doors[23].door.tep == 0xa4 && u.doors[23].door.resumed);
-    EXPECT(u.doors[23].door.peer_length == 13 && memcmp(u.doors[23].door.peer, area, 13) == 0);
+    EXPECT(u.doors[23].phase == DOOR_LINK_OPEN && u.doors[23].role == 0 && u.doors[23].tep == 0xa4 && u.doors[23].resumed == 1);
+    EXPECT(u.doors[23].peer_length == 13 && memcmp(u.doors[23].peer, area, 13) == 0);
 
     /* Plain: the other side has no option. */
     EXPECT(door_link_unit_offer(&unit, 22, 1, false, false, teps, 2, false, nonce, 0, out, sizeof out).number == 5);
     reply = door_link_unit_receive(&unit, 22, true, true, area, 0);
     EXPECT(reply.kind == DOOR_LINK_PLAIN && reply.number == DOOR_LINK_NO_OPTION && !reply.place && !reply.option);
     u = seen(&unit);
-    EXPECT(u.doors[22].door.phase == 5 && u.doors[22].door.cause.reason == DOOR_LINK_NO_OPTION && !u.doors[22].door.cause.place && !u.doors[22].door.cause.kind);
+    EXPECT(u.doors[22].phase == 5 && u.doors[22].reason == DOOR_LINK_NO_OPTION && !u.doors[22].place && !u.doors[22].kind);
 
     init_messages();
     frames();

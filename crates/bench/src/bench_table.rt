@@ -18,6 +18,30 @@ K2, host B
     );
 }
 
+// RFC 8547, 4.2: bit a of the global suboption. An end that makes it mandatory takes no other end without it.
+fn application_aware() {
+    run::unit_table(
+        b"\
+application-aware, mandatory at both ends, host A
+  offer role 0 mandatory-aware TEPs 21 23 -> wrote 5: 45 05 02 21 23
+  SYN+ACK area 45 04 03 23 -> Open
+  result -> role 0 TEP 23 fresh transcript 9: 45 05 02 21 23 45 04 03 23
+application-aware, mandatory at both ends, host B
+  answer area 45 05 02 21 23 mandatory-aware TEPs 23 -> wrote 4: 45 04 03 23
+  ACK area 45 02 -> Open
+  result -> role 1 TEP 23 fresh transcript 9: 45 05 02 21 23 45 04 03 23
+application-aware, mandatory at host A alone: reason 5
+  offer role 0 mandatory-aware TEPs 21 23 -> wrote 5: 45 05 02 21 23
+  SYN+ACK area 45 04 01 23 -> plain 5
+  result -> plain 5
+application-aware, mandatory at neither end
+  offer role 0 aware TEPs 21 23 -> wrote 5: 45 05 02 21 23
+  SYN+ACK area 45 04 01 23 -> Open
+  result -> role 0 TEP 23 fresh transcript 9: 45 05 02 21 23 45 04 01 23
+",
+    );
+}
+
 fn r_offered() {
     run::unit_table(
         b"\
@@ -132,6 +156,7 @@ fifth record: 6
 
 pub fn table() {
     k2();
+    application_aware();
     r_offered();
     data_from_b();
     data_from_a();

@@ -8,7 +8,10 @@ use crate::say;
 use crate::unit_calls;
 use crate::word;
 use generation::GenerationRecord;
-use unit::LinkUnit;
+use link_unit::DOORS;
+use link_unit::PLACE;
+use link_unit::ROW;
+use link_unit::ROWS;
 
 fn is_call(line: &[u8]) -> bool {
     if line.len() == 0 {
@@ -22,22 +25,37 @@ fn name(line: &[u8]) {
     say::text(b"\n");
 }
 
-fn unit_line(unit: LinkUnit, line: &[u8]) -> LinkUnit {
+fn unit_line(
+    owners: &mut [u8; ROWS],
+    rows: &mut [[u8; ROW]; ROWS],
+    doors: &mut [[u8; PLACE]; DOORS],
+    line: &[u8],
+) {
     if is_call(line) {
-        return unit_calls::made(unit, line);
+        unit_calls::made(owners, rows, doors, line);
+        return;
     }
     name(line);
-    link_unit::new()
+    link_unit::erase(owners, rows, doors);
 }
 
-// A table of calls of the unit.
+// A table of calls of the unit, whose memory stands here.
 pub fn unit_table(table: &[u8]) {
-    let mut unit = link_unit::new();
+    let mut owners = [0u8; ROWS];
+    let row = [0u8; ROW];
+    let mut rows = [row; ROWS];
+    let door = [0u8; PLACE];
+    let mut doors = [door; DOORS];
+    link_unit::erase(&mut owners, &mut rows, &mut doors);
     let mut at = 0;
     while at < table.len() {
         let end = read::until(table, at, b'\n');
-        let after = unit_line(unit, read::part(table, at, end));
-        unit = after;
+        unit_line(
+            &mut owners,
+            &mut rows,
+            &mut doors,
+            read::part(table, at, end),
+        );
         if table.len() <= end {
             return;
         }

@@ -1,4 +1,4 @@
-// Lines that are calls of the unit.
+// Lines that are calls of the unit, which is lent.
 use crate::read;
 use crate::said;
 use crate::say;
@@ -7,8 +7,10 @@ use door::Phase;
 use door::Refusal;
 use door::Reply;
 use eno::Cause;
-use link_unit::Replied;
-use unit::LinkUnit;
+use link_unit::DOORS;
+use link_unit::PLACE;
+use link_unit::ROW;
+use link_unit::ROWS;
 
 // The secret of every record of the bench.
 const SECRET: u8 = 0x5a;
@@ -79,18 +81,32 @@ fn reply_words(reply: Reply, out: &mut [u8]) -> usize {
     }
 }
 
-// An offer, not application-aware, without a nonce.
-fn offer(unit: LinkUnit, door: usize, line: &[u8], lent: &mut [u8]) -> Replied {
+// The word of an offer whose side is application-aware; `word` has the others.
+const AWARE: u32 = 0x6177_6172;
+
+// An offer without a nonce; where it is mandatory that the other side is application-aware, this side is too.
+fn offer(
+    owners: &mut [u8; ROWS],
+    rows: &mut [[u8; ROW]; ROWS],
+    doors: &mut [[u8; PLACE]; DOORS],
+    door: usize,
+    line: &[u8],
+    lent: &mut [u8],
+) -> Reply {
     let b = read::at_most(line, word::ROLE, 255) as u8;
+    let mandatory = read::has(line, word::MANDATORY);
+    let aware = mandatory || read::has(line, AWARE);
     let mut list = [0u8; ROOM];
     let n = read::list(line, word::TEPS, &mut list);
     let resume = read::has(line, word::RESUMING);
     link_unit::offer(
-        unit,
+        owners,
+        rows,
+        doors,
         door,
         b,
-        false,
-        false,
+        aware,
+        mandatory,
         read::first(&list, n),
         resume,
         b"",
@@ -99,14 +115,23 @@ fn offer(unit: LinkUnit, door: usize, line: &[u8], lent: &mut [u8]) -> Replied {
 }
 
 // An answer without a nonce; where it is mandatory that the other side is application-aware, this side is too.
-fn answer(unit: LinkUnit, door: usize, line: &[u8], lent: &mut [u8]) -> Replied {
+fn answer(
+    owners: &mut [u8; ROWS],
+    rows: &mut [[u8; ROW]; ROWS],
+    doors: &mut [[u8; PLACE]; DOORS],
+    door: usize,
+    line: &[u8],
+    lent: &mut [u8],
+) -> Reply {
     let mut area = [0u8; ROOM];
     let long = read::list(line, word::AREA, &mut area);
     let aware = read::has(line, word::MANDATORY);
     let mut list = [0u8; ROOM];
     let n = read::list(line, word::TEPS, &mut list);
     link_unit::answer(
-        unit,
+        owners,
+        rows,
+        doors,
         door,
         read::first(&area, long),
         aware,
@@ -117,12 +142,18 @@ fn answer(unit: LinkUnit, door: usize, line: &[u8], lent: &mut [u8]) -> Replied 
     )
 }
 
-fn receive(unit: LinkUnit, door: usize, line: &[u8]) -> Replied {
+fn receive(
+    owners: &[u8; ROWS],
+    rows: &[[u8; ROW]; ROWS],
+    doors: &mut [[u8; PLACE]; DOORS],
+    door: usize,
+    line: &[u8],
+) -> Reply {
     let mut area = [0u8; ROOM];
     let n = read::list(line, word::AREA, &mut area);
     let syn = !read::has(line, word::ACK);
     let ack = !read::has(line, word::SYN);
-    link_unit::receive(unit, door, syn, ack, read::first(&area, n))
+    link_unit::receive(owners, rows, doors, door, syn, ack, read::first(&area, n))
 }
 
 // The byte of which the secret that a reply gives has 32.
@@ -147,39 +178,71 @@ fn secret_told(came: [u8; 32], expected: u8) {
     }
 }
 
-fn result(unit: LinkUnit, door: usize, lent: &mut [u8]) -> Replied {
-    let r = link_unit::result(unit, door, lent);
-    let reply = r.reply;
-    let secret = r.secret;
+fn result(
+    owners: &[u8; ROWS],
+    rows: &[[u8; ROW]; ROWS],
+    doors: &[[u8; PLACE]; DOORS],
+    door: usize,
+    lent: &mut [u8],
+) -> Reply {
+    let told = link_unit::result(owners, rows, doors, door, lent);
+    let reply = told.reply;
+    let secret = told.secret;
     secret_told(secret, secret_of(reply));
-    let after = r.unit;
-    Replied { unit: after, reply }
+    reply
 }
 
-fn store(unit: LinkUnit, door: usize, line: &[u8]) -> Replied {
+fn store(
+    owners: &mut [u8; ROWS],
+    rows: &mut [[u8; ROW]; ROWS],
+    doors: &mut [[u8; PLACE]; DOORS],
+    door: usize,
+    line: &[u8],
+) -> Reply {
     let tep = read::byte(line, word::TEP);
     let b = read::at_most(line, word::ROLE, 255) as u8;
     let mut identifier = [0u8; ROOM];
     let n = read::list(line, word::IDENTIFIER, &mut identifier);
     let secret = [SECRET; 32];
-    link_unit::store(unit, door, tep, b, read::first(&identifier, n), &secret)
+    link_unit::store(
+        owners,
+        rows,
+        doors,
+        door,
+        tep,
+        b,
+        read::first(&identifier, n),
+        &secret,
+    )
 }
 
-fn forget(unit: LinkUnit, door: usize, line: &[u8]) -> Replied {
+fn forget(
+    owners: &mut [u8; ROWS],
+    rows: &mut [[u8; ROW]; ROWS],
+    doors: &mut [[u8; PLACE]; DOORS],
+    door: usize,
+    line: &[u8],
+) -> Reply {
     let tep = read::byte(line, word::TEP);
     let mut identifier = [0u8; ROOM];
     let n = read::list(line, word::IDENTIFIER, &mut identifier);
-    link_unit::forget(unit, door, tep, read::first(&identifier, n))
+    link_unit::forget(owners, rows, doors, door, tep, read::first(&identifier, n))
 }
 
-fn record_call(unit: LinkUnit, door: usize, line: &[u8]) -> Replied {
+fn record_call(
+    owners: &mut [u8; ROWS],
+    rows: &mut [[u8; ROW]; ROWS],
+    doors: &mut [[u8; PLACE]; DOORS],
+    door: usize,
+    line: &[u8],
+) -> Reply {
     if read::has(line, word::STORE) {
-        return store(unit, door, line);
+        return store(owners, rows, doors, door, line);
     }
     if read::has(line, word::FORGET) {
-        return forget(unit, door, line);
+        return forget(owners, rows, doors, door, line);
     }
-    link_unit::count(unit, door)
+    link_unit::count(owners, rows, doors, door)
 }
 
 // The door that a line names; 7 where it names none.
@@ -191,34 +254,42 @@ fn door_of(line: &[u8]) -> usize {
 }
 
 // The call of a line: what stands before its arrow.
-fn call(unit: LinkUnit, line: &[u8], lent: &mut [u8]) -> Replied {
+fn call(
+    owners: &mut [u8; ROWS],
+    rows: &mut [[u8; ROW]; ROWS],
+    doors: &mut [[u8; PLACE]; DOORS],
+    line: &[u8],
+    lent: &mut [u8],
+) -> Reply {
     let door = door_of(line);
     if read::has(line, word::OFFER) {
-        return offer(unit, door, line, lent);
+        return offer(owners, rows, doors, door, line, lent);
     }
     if read::has(line, word::ANSWER) {
-        return answer(unit, door, line, lent);
+        return answer(owners, rows, doors, door, line, lent);
     }
     if read::has(line, word::AREA) {
-        return receive(unit, door, line);
+        return receive(owners, rows, doors, door, line);
     }
     if read::has(line, word::RESEND) {
-        return link_unit::resend(unit, door, lent);
+        return link_unit::resend(owners, rows, doors, door, lent);
     }
     if read::has(line, word::RESULT) {
-        return result(unit, door, lent);
+        return result(owners, rows, doors, door, lent);
     }
-    record_call(unit, door, line)
+    record_call(owners, rows, doors, door, line)
 }
 
 // Makes the call of a line and holds the line against what came.
-pub fn made(unit: LinkUnit, line: &[u8]) -> LinkUnit {
+pub fn made(
+    owners: &mut [u8; ROWS],
+    rows: &mut [[u8; ROW]; ROWS],
+    doors: &mut [[u8; PLACE]; DOORS],
+    line: &[u8],
+) {
     let mut lent = [say::FILL; say::LENT];
-    let r = call(unit, read::given(line), &mut lent);
-    let reply = r.reply;
+    let reply = call(owners, rows, doors, read::given(line), &mut lent);
     let mut words = [0u8; ROOM];
     let n = reply_words(reply, &mut words);
     say::check(line, read::first(&words, n), &lent, say::FILL);
-    let after = r.unit;
-    after
 }

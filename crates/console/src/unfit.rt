@@ -5,63 +5,111 @@ use crate::command::Name;
 use crate::text::finish;
 use crate::text::put;
 use crate::text::put_counted;
+use crate::texts::text;
 
-// The words of the lines without the unit; put_name has the others.
-fn put_message_name(out: &mut [u8], at: usize, name: Name) -> usize {
+// The place of a word's name in the list of put_name.
+fn name_number(name: Name) -> usize {
     match name {
-        Name::Cipher => put(out, at, b"CIPHER"),
-        Name::Ciphers => put(out, at, b"CIPHERS"),
-        Name::Enabled => put(out, at, b"ENABLED"),
-        Name::Key => put(out, at, b"KEY"),
-        Name::Bytes => put(out, at, b"BYTES"),
-        Name::Rekey => put(out, at, b"REKEY"),
-        Name::Length => put(out, at, b"LENGTH"),
-        Name::Offset => put(out, at, b"OFFSET"),
-        Name::Fixed => put(out, at, b"FIXED"),
-        Name::Fin => put(out, at, b"FIN"),
-        Name::Urg => put(out, at, b"URG"),
-        Name::Urgent => put(out, at, b"URGENT"),
-        Name::Data => put(out, at, b"DATA"),
-        Name::Local => put(out, at, b"LOCAL"),
-        Name::Remote => put(out, at, b"REMOTE"),
-        Name::Last => put(out, at, b"LAST"),
-        _ => at,
+        Name::Door => 0,
+        Name::B => 1,
+        Name::Role => 2,
+        Name::A => 3,
+        Name::Mandatory => 4,
+        Name::Resume => 5,
+        Name::Syn => 6,
+        Name::Ack => 7,
+        Name::Tep => 8,
+        Name::Teps => 9,
+        Name::Nonce => 10,
+        Name::Area => 11,
+        Name::Identifier => 12,
+        Name::Secret => 13,
+        Name::Buf => 14,
+        Name::Cipher => 15,
+        Name::Ciphers => 16,
+        Name::Enabled => 17,
+        Name::Key => 18,
+        Name::Bytes => 19,
+        Name::Rekey => 20,
+        Name::Length => 21,
+        Name::Offset => 22,
+        Name::Fixed => 23,
+        Name::Fin => 24,
+        Name::Urg => 25,
+        Name::Urgent => 26,
+        Name::Data => 27,
+        Name::Local => 28,
+        Name::Remote => 29,
+        Name::Last => 30,
     }
 }
 
 fn put_name(out: &mut [u8], at: usize, name: Name) -> usize {
-    match name {
-        Name::Door => put(out, at, b"DOOR"),
-        Name::B => put(out, at, b"B"),
-        Name::Role => put(out, at, b"ROLE"),
-        Name::A => put(out, at, b"A"),
-        Name::Mandatory => put(out, at, b"MANDATORY"),
-        Name::Resume => put(out, at, b"RESUME"),
-        Name::Syn => put(out, at, b"SYN"),
-        Name::Ack => put(out, at, b"ACK"),
-        Name::Tep => put(out, at, b"TEP"),
-        Name::Teps => put(out, at, b"TEPS"),
-        Name::Nonce => put(out, at, b"NONCE"),
-        Name::Area => put(out, at, b"AREA"),
-        Name::Identifier => put(out, at, b"IDENTIFIER"),
-        Name::Secret => put(out, at, b"SECRET"),
-        Name::Buf => put(out, at, b"BUF"),
-        _ => put_message_name(out, at, name),
+    let names = b"\
+DOOR
+B
+ROLE
+A
+MANDATORY
+RESUME
+SYN
+ACK
+TEP
+TEPS
+NONCE
+AREA
+IDENTIFIER
+SECRET
+BUF
+CIPHER
+CIPHERS
+ENABLED
+KEY
+BYTES
+REKEY
+LENGTH
+OFFSET
+FIXED
+FIN
+URG
+URGENT
+DATA
+LOCAL
+REMOTE
+LAST
+";
+    put(out, at, text(names, name_number(name)))
+}
+
+// The place of a form in the list of put_form.
+fn form_number(form: Form) -> usize {
+    match form {
+        Form::Number => 0,
+        Form::Short => 1,
+        Form::Small => 2,
+        Form::Flag => 3,
+        Form::Octet => 4,
+        Form::Cipher => 5,
+        Form::Bytes => 6,
+        Form::Ciphers => 7,
+        Form::Enabled => 8,
     }
 }
 
 fn put_form(out: &mut [u8], at: usize, form: Form) -> usize {
-    match form {
-        Form::Number => put(out, at, b" is a decimal number below 2^64, no leading zero"),
-        Form::Short => put(out, at, b" is a decimal number to 65535, no leading zero"),
-        Form::Small => put(out, at, b" is a decimal number to 255, no leading zero"),
-        Form::Flag => put(out, at, b" is 0 or 1"),
-        Form::Octet => put(out, at, b" is two hex digits"),
-        Form::Cipher => put(out, at, b" is four hex digits"),
-        Form::Bytes => put(out, at, b" is lower-case hex, two digits a byte, or -"),
-        Form::Ciphers => put(out, at, b" is lower-case hex, four digits a cipher, or -"),
-        Form::Enabled => put(out, at, b" is a list of 0001, 0002 and 0010, or -"),
-    }
+    let next = put(out, at, b" ");
+    let forms = b"\
+is a decimal number below 2^64, no leading zero
+is a decimal number to 65535, no leading zero
+is a decimal number to 255, no leading zero
+is 0 or 1
+is two hex digits
+is four hex digits
+is lower-case hex, two digits a byte, or -
+is lower-case hex, four digits a cipher, or -
+is a list of 0001, 0002 and 0010, or -
+";
+    put(out, next, text(forms, form_number(form)))
 }
 
 fn put_expected(out: &mut [u8], at: usize, expected: Expected) -> usize {

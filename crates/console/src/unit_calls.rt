@@ -1,5 +1,6 @@
-// The calls on the unit: each is made with the words of its line, and its reply is written.
+// The calls on the unit, which is lent: each is made with the words of its line, and its reply is written.
 use crate::command::Answer;
+use crate::command::Ask;
 use crate::command::Forget;
 use crate::command::Look;
 use crate::command::Offer;
@@ -7,21 +8,28 @@ use crate::command::Receive;
 use crate::command::Store;
 use crate::text::part;
 use crate::text::within;
+use crate::texts::text;
 use crate::unit_replies;
-use unit::LinkUnit;
+use door::Reply;
+use link_unit::DOORS;
+use link_unit::PLACE;
+use link_unit::ROW;
+use link_unit::ROWS;
 
-// Each makes its call and writes the reply, and gives the unit afterwards. The bytes of its words stand in first, second and third, in order, and its buffer in lent.
-pub fn offer(
-    unit: LinkUnit,
+fn offer(
+    owners: &mut [u8; ROWS],
+    rows: &mut [[u8; ROW]; ROWS],
+    doors: &mut [[u8; PLACE]; DOORS],
     words: Offer,
     first: &[u8],
     second: &[u8],
     lent: &mut [u8],
-    out: &mut [u8],
-) -> LinkUnit {
+) -> Reply {
     let n = within(words.room, lent);
-    let told = link_unit::offer(
-        unit,
+    link_unit::offer(
+        owners,
+        rows,
+        doors,
         words.door,
         words.b,
         words.aware,
@@ -30,24 +38,24 @@ pub fn offer(
         words.resume,
         part(second, words.nonce),
         &mut lent[0..n],
-    );
-    let answer = told.reply;
-    unit_replies::with_buffer(out, answer, part(lent, words.room));
-    told.unit
+    )
 }
 
-pub fn answer(
-    unit: LinkUnit,
+fn answer(
+    owners: &mut [u8; ROWS],
+    rows: &mut [[u8; ROW]; ROWS],
+    doors: &mut [[u8; PLACE]; DOORS],
     words: Answer,
     first: &[u8],
     second: &[u8],
     third: &[u8],
     lent: &mut [u8],
-    out: &mut [u8],
-) -> LinkUnit {
+) -> Reply {
     let n = within(words.room, lent);
-    let told = link_unit::answer(
-        unit,
+    link_unit::answer(
+        owners,
+        rows,
+        doors,
         words.door,
         part(first, words.area),
         words.aware,
@@ -55,85 +63,160 @@ pub fn answer(
         part(second, words.teps),
         part(third, words.nonce),
         &mut lent[0..n],
-    );
-    let answer = told.reply;
-    unit_replies::with_buffer(out, answer, part(lent, words.room));
-    told.unit
+    )
 }
 
-pub fn receive(unit: LinkUnit, words: Receive, first: &[u8], out: &mut [u8]) -> LinkUnit {
-    let told = link_unit::receive(
-        unit,
-        words.door,
-        words.syn,
-        words.ack,
-        part(first, words.area),
-    );
-    let answer = told.reply;
-    unit_replies::plainly(out, answer, b"");
-    told.unit
+fn receive(
+    owners: &[u8; ROWS],
+    rows: &[[u8; ROW]; ROWS],
+    doors: &mut [[u8; PLACE]; DOORS],
+    words: Receive,
+    first: &[u8],
+) -> Reply {
+    let area = part(first, words.area);
+    link_unit::receive(owners, rows, doors, words.door, words.syn, words.ack, area)
 }
 
-pub fn close(unit: LinkUnit, door: usize, out: &mut [u8]) -> LinkUnit {
-    let told = link_unit::close(unit, door);
-    let answer = told.reply;
-    unit_replies::plainly(out, answer, b"closed");
-    told.unit
-}
-
-pub fn store(
-    unit: LinkUnit,
+fn store(
+    owners: &mut [u8; ROWS],
+    rows: &mut [[u8; ROW]; ROWS],
+    doors: &mut [[u8; PLACE]; DOORS],
     words: Store,
     first: &[u8],
     second: &[u8],
-    out: &mut [u8],
-) -> LinkUnit {
-    let told = link_unit::store(
-        unit,
+) -> Reply {
+    link_unit::store(
+        owners,
+        rows,
+        doors,
         words.door,
         words.tep,
         words.role,
         part(first, words.identifier),
         part(second, words.secret),
-    );
-    let answer = told.reply;
-    unit_replies::plainly(out, answer, b"stored");
-    told.unit
+    )
 }
 
-pub fn forget(unit: LinkUnit, words: Forget, first: &[u8], out: &mut [u8]) -> LinkUnit {
-    let told = link_unit::forget(unit, words.door, words.tep, part(first, words.identifier));
-    let answer = told.reply;
-    unit_replies::plainly(out, answer, b"forgotten");
-    told.unit
+fn forget(
+    owners: &mut [u8; ROWS],
+    rows: &mut [[u8; ROW]; ROWS],
+    doors: &mut [[u8; PLACE]; DOORS],
+    words: Forget,
+    first: &[u8],
+) -> Reply {
+    let identifier = part(first, words.identifier);
+    link_unit::forget(owners, rows, doors, words.door, words.tep, identifier)
 }
 
-pub fn erase(unit: LinkUnit, out: &mut [u8]) -> LinkUnit {
-    let told = link_unit::erase(unit);
+fn made(
+    owners: &mut [u8; ROWS],
+    rows: &mut [[u8; ROW]; ROWS],
+    doors: &mut [[u8; PLACE]; DOORS],
+    asked: Ask,
+    first: &[u8],
+    second: &[u8],
+    third: &[u8],
+    lent: &mut [u8],
+) -> Reply {
+    match asked {
+        Ask::Offer(words) => offer(owners, rows, doors, words, first, second, lent),
+        Ask::Answer(words) => answer(owners, rows, doors, words, first, second, third, lent),
+        Ask::Receive(words) => receive(owners, rows, doors, words, first),
+        Ask::Close(door) => link_unit::close(owners, rows, doors, door),
+        Ask::Store(words) => store(owners, rows, doors, words, first, second),
+        Ask::Forget(words) => forget(owners, rows, doors, words, first),
+        Ask::Erase => link_unit::erase(owners, rows, doors),
+    }
+}
+
+// The place, in the list of call, of the word for a call that has nothing else to say.
+fn done_number(asked: Ask) -> usize {
+    match asked {
+        Ask::Offer(words) => 0,
+        Ask::Answer(words) => 0,
+        Ask::Receive(words) => 0,
+        Ask::Close(door) => 1,
+        Ask::Store(words) => 2,
+        Ask::Forget(words) => 3,
+        Ask::Erase => 4,
+    }
+}
+
+// Makes a call that may change the unit and writes its reply. The bytes of its words stand in first, second and third, in order, and its buffer in lent.
+pub fn call(
+    owners: &mut [u8; ROWS],
+    rows: &mut [[u8; ROW]; ROWS],
+    doors: &mut [[u8; PLACE]; DOORS],
+    asked: Ask,
+    first: &[u8],
+    second: &[u8],
+    third: &[u8],
+    lent: &mut [u8],
+    out: &mut [u8],
+) {
+    let answer = made(owners, rows, doors, asked, first, second, third, lent);
+    match asked {
+        Ask::Offer(words) => {
+            unit_replies::with_buffer(out, answer, part(lent, words.room));
+        }
+        Ask::Answer(words) => {
+            unit_replies::with_buffer(out, answer, part(lent, words.room));
+        }
+        _ => {
+            let words = b"\nclosed\nstored\nforgotten\nerased\n";
+            unit_replies::plainly(out, answer, text(words, done_number(asked)));
+        }
+    }
+}
+
+fn resend(
+    owners: &[u8; ROWS],
+    rows: &[[u8; ROW]; ROWS],
+    doors: &[[u8; PLACE]; DOORS],
+    door: usize,
+    room: usize,
+    lent: &mut [u8],
+    out: &mut [u8],
+) {
+    let n = within(room, lent);
+    let answer = link_unit::resend(owners, rows, doors, door, &mut lent[0..n]);
+    unit_replies::with_buffer(out, answer, part(lent, room));
+}
+
+fn result(
+    owners: &[u8; ROWS],
+    rows: &[[u8; ROW]; ROWS],
+    doors: &[[u8; PLACE]; DOORS],
+    door: usize,
+    room: usize,
+    lent: &mut [u8],
+    out: &mut [u8],
+) {
+    let n = within(room, lent);
+    let told = link_unit::result(owners, rows, doors, door, &mut lent[0..n]);
     let answer = told.reply;
-    unit_replies::plainly(out, answer, b"erased");
-    told.unit
+    let secret = told.secret;
+    unit_replies::with_secret(out, answer, secret, part(lent, room));
 }
 
 // Makes a call that leaves the unit as it is, and writes its reply.
-pub fn look(unit: LinkUnit, asked: Look, lent: &mut [u8], out: &mut [u8]) {
+pub fn look(
+    owners: &[u8; ROWS],
+    rows: &[[u8; ROW]; ROWS],
+    doors: &[[u8; PLACE]; DOORS],
+    asked: Look,
+    lent: &mut [u8],
+    out: &mut [u8],
+) {
     match asked {
         Look::Resend { door, room } => {
-            let n = within(room, lent);
-            let told = link_unit::resend(unit, door, &mut lent[0..n]);
-            let answer = told.reply;
-            unit_replies::with_buffer(out, answer, part(lent, room));
+            resend(owners, rows, doors, door, room, lent, out);
         }
         Look::Result { door, room } => {
-            let n = within(room, lent);
-            let told = link_unit::result(unit, door, &mut lent[0..n]);
-            let answer = told.reply;
-            let secret = told.secret;
-            unit_replies::with_secret(out, answer, secret, part(lent, room));
+            result(owners, rows, doors, door, room, lent, out);
         }
         Look::Count { door } => {
-            let told = link_unit::count(unit, door);
-            let answer = told.reply;
+            let answer = link_unit::count(owners, rows, doors, door);
             unit_replies::plainly(out, answer, b"");
         }
     }

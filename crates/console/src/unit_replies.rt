@@ -7,19 +7,26 @@ use crate::text::finish;
 use crate::text::finish_lent;
 use crate::text::put;
 use crate::text::put_counted;
+use crate::texts::text;
 use door::Phase;
 use door::Reply;
 use eno::Cause;
 
-fn put_phase(out: &mut [u8], phase: Phase) -> usize {
+// The place of a phase in the list of put_phase.
+fn phase_number(phase: Phase) -> usize {
     match phase {
-        Phase::Idle => put(out, 0, b"idle"),
-        Phase::Offered => put(out, 0, b"offered"),
-        Phase::Crossed => put(out, 0, b"crossed"),
-        Phase::Answered => put(out, 0, b"answered"),
-        Phase::Open => put(out, 0, b"open"),
-        Phase::Plain => put(out, 0, b"plain"),
+        Phase::Idle => 0,
+        Phase::Offered => 1,
+        Phase::Crossed => 2,
+        Phase::Answered => 3,
+        Phase::Open => 4,
+        Phase::Plain => 5,
     }
+}
+
+fn put_phase(out: &mut [u8], phase: Phase) -> usize {
+    let phases = b"idle\noffered\ncrossed\nanswered\nopen\nplain\n";
+    put(out, 0, text(phases, phase_number(phase)))
 }
 
 fn put_way(out: &mut [u8], at: usize, resumed: bool, secret: &[u8]) -> usize {

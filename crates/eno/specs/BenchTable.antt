@@ -1,4 +1,4 @@
--- Cases K1 to K12 of document 01's bench table, with those on the record R and those on unreadable areas: one table, one claim about all rows.
+-- Cases K1 to K12 of document 01's bench table, with those on bit a, on the record R and on unreadable areas: one table, one claim about all rows.
 use Prim.Native.Nat.{ℕ}
 use mathlib.Core.Path.{_≡_, refl}
 use mathlib.Core.List.{List, [], _∷_, _++_, map}
@@ -24,7 +24,9 @@ use Rattle.eno.specs.declared.Cause.{Cause}
 pub data Given : Type 0 where
   -- two options, A's and B's, each an area of its own; the first end's view
   areas : (own peer : List ℕ) → Given
-  -- the same with R in hand
+  -- the same where this end makes it mandatory that the other is application-aware
+  mandatory : (own peer : List ℕ) → Given
+  -- two options with R in hand
   withR : (own peer : List ℕ) → Given
   -- an option's b
   role : List ℕ → Given
@@ -60,6 +62,7 @@ recordR = record { tep = 0x23; role = 0; identifier = lowHalf ++ highHalf; secre
 unfoldable pub answer : Given → Expected
 unfolding judge roleOf contents finding nonce
 answer (areas own peer) = judgement (judge false none own peer)
+answer (mandatory own peer) = judgement (judge true none own peer)
 answer (withR own peer) = judgement (judge false (some recordR) own peer)
 answer (role o) = bit (roleOf o)
 answer (inside o) = suboptionsAre (contents o)
@@ -89,6 +92,12 @@ table =
     ∷ row (areas (0x45 ∷ 4 ∷ 1 ∷ 0x23 ∷ []) (0x45 ∷ 4 ∷ 0x21 ∷ 0x23 ∷ [])) (judgement (encrypt 1 0x23 fresh (0x45 ∷ 4 ∷ 0x21 ∷ 0x23 ∷ 0x45 ∷ 4 ∷ 1 ∷ 0x23 ∷ [])))
     -- K2: 21
     ∷ row (areas (0x45 ∷ 5 ∷ 0x21 ∷ 0x23 ∷ 0x24 ∷ []) (0x45 ∷ 5 ∷ 1 ∷ 0x23 ∷ 0x21 ∷ [])) (judgement (encrypt 0 0x21 fresh (0x45 ∷ 5 ∷ 0x21 ∷ 0x23 ∷ 0x24 ∷ 0x45 ∷ 5 ∷ 1 ∷ 0x23 ∷ 0x21 ∷ [])))
+    -- bit a at both ends, mandatory at each: 23 fresh; A's view, then B's
+    ∷ row (mandatory (0x45 ∷ 5 ∷ 2 ∷ 0x21 ∷ 0x23 ∷ []) (0x45 ∷ 4 ∷ 3 ∷ 0x23 ∷ [])) (judgement (encrypt 0 0x23 fresh (0x45 ∷ 5 ∷ 2 ∷ 0x21 ∷ 0x23 ∷ 0x45 ∷ 4 ∷ 3 ∷ 0x23 ∷ [])))
+    ∷ row (mandatory (0x45 ∷ 4 ∷ 3 ∷ 0x23 ∷ []) (0x45 ∷ 5 ∷ 2 ∷ 0x21 ∷ 0x23 ∷ [])) (judgement (encrypt 1 0x23 fresh (0x45 ∷ 5 ∷ 2 ∷ 0x21 ∷ 0x23 ∷ 0x45 ∷ 4 ∷ 3 ∷ 0x23 ∷ [])))
+    -- at A alone: reason 5 where it is mandatory, and 23 fresh where it is not
+    ∷ row (mandatory (0x45 ∷ 5 ∷ 2 ∷ 0x21 ∷ 0x23 ∷ []) (0x45 ∷ 4 ∷ 1 ∷ 0x23 ∷ [])) (judgement (plain (numbered 5)))
+    ∷ row (areas (0x45 ∷ 5 ∷ 2 ∷ 0x21 ∷ 0x23 ∷ []) (0x45 ∷ 4 ∷ 1 ∷ 0x23 ∷ [])) (judgement (encrypt 0 0x23 fresh (0x45 ∷ 5 ∷ 2 ∷ 0x21 ∷ 0x23 ∷ 0x45 ∷ 4 ∷ 1 ∷ 0x23 ∷ [])))
     -- K3: 21
     ∷ row (areas (0x45 ∷ 4 ∷ 0x21 ∷ 0x23 ∷ []) (0x45 ∷ 5 ∷ 1 ∷ 0x21 ∷ 0x2f ∷ [])) (judgement (encrypt 0 0x21 fresh (0x45 ∷ 4 ∷ 0x21 ∷ 0x23 ∷ 0x45 ∷ 5 ∷ 1 ∷ 0x21 ∷ 0x2f ∷ [])))
     -- K4: reason 4

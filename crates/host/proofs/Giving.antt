@@ -1,26 +1,21 @@
--- An exported call gives back what the call that it wraps gives back, in plain numbers.
-use Prim.Native.Nat.{ℕ}
-use mathlib.Core.Path.{_≡_, refl, _∙_, ap, ap₂}
+-- An exported call gives back the step that the call within it gives back.
+use mathlib.Core.Path.{_≡_, refl, ap, _∙_}
 use mathlib.Core.List.{List, []}
+use Prim.Native.Nat.{ℕ}
 use Rattle.door.specs.Answers.{replyOf, secretBeside}
 use Rattle.door.specs.declared.Reply.{Reply}
 use Rattle.door.specs.declared.Reply.the-variants as reply
 use Rattle.unit.specs.Run.{Step}
 use Rattle.unit.specs.declared.LinkUnit.{LinkUnit}
 use Rattle.unit_step.specs.Steps.{stepOf, resultOf}
-use Rattle.unit_step.specs.declared.Replied.{Replied}
 use Rattle.unit_step.specs.declared.Resulted.{Resulted}
-use Rattle.host.specs.Replies.{numbersOf, replied, resulted, Gives, GivesResult}
-use Rattle.host_reply.specs.declared.ReplyNumbers.{ReplyNumbers}
-use Rattle.host.specs.declared.LinkReply.{LinkReply}
 use Rattle.host.specs.declared.LinkResult.{LinkResult}
+use Rattle.host_reply.specs.declared.ReplyNumbers.{ReplyNumbers}
+use Rattle.host.specs.Replies.{Gives, GivesResult}
+use Rattle.host_numbers.specs.Replies.{numbersOf}
 
-abbrev linkReply : LinkUnit → ReplyNumbers → LinkReply
-linkReply u n = record { unit = u; reply = n }
-
-pub gives : (r : Replied) (lent : List ℕ) (s : Step) (n : ReplyNumbers) → n ≡ numbersOf (replyOf (r .reply) []) → stepOf r lent ≡ s → Gives (linkReply (r .unit) n) lent s
-unfolding replied
-gives r lent s n e f = (ap (linkReply (r .unit)) e ∙ ap replied f, ap (λ (x : Step). x .told .buffer) f)
+pub gives : (t : Reply) (n : ReplyNumbers) (lent : List ℕ) (u : LinkUnit) (s : Step) → n ≡ numbersOf (replyOf t []) → stepOf t lent u ≡ s → Gives n lent u s
+gives t n lent u s e f = (e ∙ ap (λ (x : Step). numbersOf (x .told .reply)) f, ap (λ (x : Step). x .told .buffer) f, ap (λ (x : Step). x .unit) f)
 
 -- the secret is no part of the numbers
 without-secret : (x : Reply) (secret : List ℕ) → numbersOf (replyOf x []) ≡ numbersOf (replyOf x secret)
@@ -33,14 +28,7 @@ without-secret (reply.Encrypted role byte again n) secret = refl
 without-secret reply.Done secret = refl
 without-secret (reply.Holds n) secret = refl
 
-abbrev linkResult : LinkUnit → ReplyNumbers → List ℕ → LinkResult
-linkResult u n secret = record { unit = u; reply = n; secret = secret }
-
-pub gives-result : (r : Resulted) (lent : List ℕ) (s : Step) (n : ReplyNumbers) → n ≡ numbersOf (replyOf (r .reply) []) → resultOf r lent ≡ s → r .secret ≡ secretBeside (s .told .reply)
-    → GivesResult (linkResult (r .unit) n (r .secret)) lent s
-unfolding resulted
-gives-result r lent s n e f g = (
-  ap₂ (linkResult (r .unit)) (e ∙ (without-secret (r .reply) (r .secret) ∙ ap (λ (x : Step). numbersOf (x .told .reply)) f)) g
-      ∙ ap (λ (u : LinkUnit). linkResult u (numbersOf (s .told .reply)) (secretBeside (s .told .reply))) (ap (λ (x : Step). x .unit) f),
-  ap (λ (x : Step). x .told .buffer) f,
-)
+pub gives-result : (t : Resulted) (n : ReplyNumbers) (lent : List ℕ) (u : LinkUnit) (s : Step) → n ≡ numbersOf (replyOf (t .reply) []) → resultOf t lent u ≡ s → t .secret ≡ secretBeside (s .told .reply)
+    → GivesResult (record { reply = n; secret = t .secret }) lent u s
+gives-result t n lent u s e f g =
+    (e ∙ (without-secret (t .reply) (t .secret) ∙ ap (λ (x : Step). numbersOf (x .told .reply)) f), ap (λ (x : Step). x .told .buffer) f, ap (λ (x : Step). x .unit) f, g)

@@ -1,3 +1,2 @@
--- What the exported calls give back in plain numbers, and that these lose nothing.
+-- What the exported calls of the unit give back.
 pub mod Replies
-pub mod ReadBack

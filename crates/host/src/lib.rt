@@ -1,125 +1,66 @@
-// The unit's calls, and the finder's word.
-use door::Phase;
-use door::Refusal;
-use door::Reply;
-use finder::FindStatus;
+// The unit's calls, exported: over arrays that the host lends, with any door number, any bytes and any content of the unit.
+use host_numbers::reply_numbers;
 use host_reply::ReplyNumbers;
-use host_reply::broken_numbers;
-use host_reply::of_kind;
-use host_reply::plain_numbers;
-use unit::LinkUnit;
+use link_unit::DOORS;
+use link_unit::PLACE;
+use link_unit::ROW;
+use link_unit::ROWS;
+ghost use Prim.Native.Nat.{_+_, _*_};
 ghost use mathlib.Core.Path.{_≡_};
 ghost use mathlib.Core.List.{[]};
-ghost use Rattle.door.specs.Answers.{refusalNumber, phaseAs, replyOf};
 ghost use Rattle.door.specs.Calls.{offer, answer, receive, resend, result, close, store, forget, count};
-ghost use Rattle.door.specs.Door.{phaseNumber};
-ghost use Rattle.eno.specs.Area.{finding, status};
-ghost use Rattle.unit.specs.Unit.{emptyUnit};
+ghost use Rattle.unit.specs.Numbers.{doorsN, rowsN};
 ghost use Rattle.unit.specs.Run.{on, step};
 ghost use Rattle.unit.specs.Run as run;
-ghost use Rattle.host.specs.Replies.{numbersOf, statusNumbers, Gives, GivesResult};
-
-// What a call gives back; the unit stands first, which saves copies of it.
-#[repr(C)]
-pub struct LinkReply {
-    pub unit: LinkUnit,
-    pub reply: ReplyNumbers,
-}
+ghost use Rattle.unit_bytes.specs.Layout.{rowSize, doorSize};
+ghost use Rattle.unit_bytes.specs.Content.{unitIn};
+ghost use Rattle.pool.specs.Placed.{DoorsKept};
+ghost use Rattle.host.specs.Replies.{Gives, GivesResult};
 
 // What a result gives back; the secret is zeros unless a session is resumed.
 #[repr(C)]
 pub struct LinkResult {
-    pub unit: LinkUnit,
     pub reply: ReplyNumbers,
     pub secret: [u8; 32],
 }
 
-fn refusal_number(refusal: Refusal) -> usize
-    ensures { λ r. ⌜ r ≡ refusalNumber refusal ⌝ }
-{
-    match refusal {
-        Refusal::NoDoor => 1,
-        Refusal::AreaTooLong => 2,
-        Refusal::Unfit => 3,
-        Refusal::OutOfTurn => 4,
-        Refusal::NoRoom => 5,
-        Refusal::Full => 6,
-        Refusal::AlreadyHeld => 7,
-        Refusal::NotHeld => 16,
-    }
-}
+const UNIT_SIZE: usize = ROWS + ROWS * ROW + DOORS * PLACE;
 
-fn phase_number(phase: Phase) -> usize
-    ensures { λ r. ⌜ r ≡ phaseNumber (phaseAs phase) ⌝ }
-{
-    match phase {
-        Phase::Idle => 0,
-        Phase::Offered => 1,
-        Phase::Crossed => 2,
-        Phase::Answered => 3,
-        Phase::Open => 4,
-        Phase::Plain => 5,
-    }
-}
-
-fn reply_numbers(reply: Reply) -> ReplyNumbers
-    ensures { λ r. ⌜ r ≡ numbersOf (replyOf reply []) ⌝ }
-{
-    match reply {
-        Reply::Refused(refusal) => {
-            let number = refusal_number(refusal);
-            of_kind(0, number)
-        }
-        Reply::Written(length) => of_kind(1, length),
-        Reply::Plain(cause) => plain_numbers(cause),
-        Reply::Now(phase) => {
-            let number = phase_number(phase);
-            of_kind(3, number)
-        }
-        Reply::Encrypted {
-            role,
-            tep,
-            resumed,
-            length,
-        } => {
-            if resumed {
-                return ReplyNumbers {
-                    number: length,
-                    kind: 4,
-                    role,
-                    tep,
-                    resumed: 1,
-                    place: 0,
-                    option: 0,
-                };
-            }
-            ReplyNumbers {
-                number: length,
-                kind: 4,
-                role,
-                tep,
-                resumed: 0,
-                place: 0,
-                option: 0,
-            }
-        }
-        Reply::Done => of_kind(5, 0),
-        Reply::Holds(count) => of_kind(6, count),
-    }
-}
-
-// The empty unit: all doors Idle, no record held or in hand.
+// The number of this interface, which its name carries: a host built for another does not link.
 #[no_mangle]
-pub extern "C" fn door_link_new() -> LinkUnit
-    ensures { λ r. ⌜ r ≡ emptyUnit ⌝ }
+pub extern "C" fn door_link_abi_1() -> usize
+    ensures { λ r. ⌜ r ≡ 1 ⌝ }
 {
-    link_unit::new()
+    1
+}
+
+// The bytes of the three arrays: owners, rows and doors.
+#[no_mangle]
+pub extern "C" fn door_link_unit_size() -> usize
+    ensures { λ r. ⌜ r ≡ rowsN + rowsN * rowSize + doorsN * doorSize ⌝ }
+{
+    UNIT_SIZE
+}
+
+// Empties the whole unit, whatever its bytes are: all doors Idle, no record held or in hand.
+#[no_mangle]
+pub extern "C" fn door_link_erase(
+    owners: &mut [u8; ROWS],
+    rows: &mut [[u8; ROW]; ROWS],
+    doors: &mut [[u8; PLACE]; DOORS],
+) -> ReplyNumbers
+    ensures { λ r. ⌜ Gives r [] (unitIn (now (owners .exit)) (now (rows .exit)) (now (doors .exit))) (step (unitIn (now (owners .entry)) (now (rows .entry)) (now (doors .entry))) run.erase) ⌝ }
+{
+    let told = link_unit::erase(owners, rows, doors);
+    reply_numbers(told)
 }
 
 // An active open, or one that may cross: writes this end's option.
 #[no_mangle]
 pub extern "C" fn door_link_offer(
-    unit: LinkUnit,
+    owners: &mut [u8; ROWS],
+    rows: &mut [[u8; ROW]; ROWS],
+    doors: &mut [[u8; PLACE]; DOORS],
     door: usize,
     b: u8,
     aware: bool,
@@ -128,20 +69,31 @@ pub extern "C" fn door_link_offer(
     resume: bool,
     nonce: &[u8],
     out: &mut [u8],
-) -> LinkReply
-    ensures { λ r. ⌜ Gives r (now (out .exit)) (step unit (on door (offer b aware mandatory (now (teps .entry)) resume (now (nonce .entry)) (now (out .entry))))) ⌝ }
+) -> ReplyNumbers
+    ensures { λ r. ⌜ (Gives r (now (out .exit)) (unitIn (now (owners .exit)) (now (rows .exit)) (now (doors .exit))) (step (unitIn (now (owners .entry)) (now (rows .entry)) (now (doors .entry))) (on door (offer b aware mandatory (now (teps .entry)) resume (now (nonce .entry)) (now (out .entry)))))) × DoorsKept door (now (doors .entry)) (now (doors .exit)) ⌝ }
 {
-    let told = link_unit::offer(unit, door, b, aware, mandatory, teps, resume, nonce, out);
-    let given = told.reply;
-    let reply = reply_numbers(given);
-    let after = told.unit;
-    LinkReply { unit: after, reply }
+    let told = link_unit::offer(
+        owners,
+        rows,
+        doors,
+        door,
+        b,
+        aware,
+        mandatory,
+        teps,
+        resume,
+        nonce,
+        out,
+    );
+    reply_numbers(told)
 }
 
 // A passive open: takes the area of a received SYN and writes this end's option, or ends in plain TCP.
 #[no_mangle]
 pub extern "C" fn door_link_answer(
-    unit: LinkUnit,
+    owners: &mut [u8; ROWS],
+    rows: &mut [[u8; ROW]; ROWS],
+    doors: &mut [[u8; PLACE]; DOORS],
     door: usize,
     area: &[u8],
     aware: bool,
@@ -149,145 +101,132 @@ pub extern "C" fn door_link_answer(
     teps: &[u8],
     nonce: &[u8],
     out: &mut [u8],
-) -> LinkReply
-    ensures { λ r. ⌜ Gives r (now (out .exit)) (step unit (on door (answer (now (area .entry)) aware mandatory (now (teps .entry)) (now (nonce .entry)) (now (out .entry))))) ⌝ }
+) -> ReplyNumbers
+    ensures { λ r. ⌜ (Gives r (now (out .exit)) (unitIn (now (owners .exit)) (now (rows .exit)) (now (doors .exit))) (step (unitIn (now (owners .entry)) (now (rows .entry)) (now (doors .entry))) (on door (answer (now (area .entry)) aware mandatory (now (teps .entry)) (now (nonce .entry)) (now (out .entry)))))) × DoorsKept door (now (doors .entry)) (now (doors .exit)) ⌝ }
 {
-    let told = link_unit::answer(unit, door, area, aware, mandatory, teps, nonce, out);
-    let given = told.reply;
-    let reply = reply_numbers(given);
-    let after = told.unit;
-    LinkReply { unit: after, reply }
+    let told = link_unit::answer(
+        owners,
+        rows,
+        doors,
+        door,
+        area,
+        aware,
+        mandatory,
+        teps,
+        nonce,
+        out,
+    );
+    reply_numbers(told)
 }
 
 // A received segment: its SYN and ACK flags and its option area.
 #[no_mangle]
 pub extern "C" fn door_link_receive(
-    unit: LinkUnit,
+    owners: &[u8; ROWS],
+    rows: &[[u8; ROW]; ROWS],
+    doors: &mut [[u8; PLACE]; DOORS],
     door: usize,
     syn: bool,
     ack: bool,
     area: &[u8],
-) -> LinkReply
-    ensures { λ r. ⌜ Gives r [] (step unit (on door (receive syn ack (now (area .entry))))) ⌝ }
+) -> ReplyNumbers
+    ensures { λ r. ⌜ (Gives r [] (unitIn (now (owners .entry)) (now (rows .entry)) (now (doors .exit))) (step (unitIn (now (owners .entry)) (now (rows .entry)) (now (doors .entry))) (on door (receive syn ack (now (area .entry)))))) × DoorsKept door (now (doors .entry)) (now (doors .exit)) ⌝ }
 {
-    let told = link_unit::receive(unit, door, syn, ack, area);
-    let given = told.reply;
-    let reply = reply_numbers(given);
-    let after = told.unit;
-    LinkReply { unit: after, reply }
+    let told = link_unit::receive(owners, rows, doors, door, syn, ack, area);
+    reply_numbers(told)
 }
 
 // Writes the option that was sent once more.
 #[no_mangle]
-pub extern "C" fn door_link_resend(unit: LinkUnit, door: usize, out: &mut [u8]) -> LinkReply
-    ensures { λ r. ⌜ Gives r (now (out .exit)) (step unit (on door (resend (now (out .entry))))) ⌝ }
+pub extern "C" fn door_link_resend(
+    owners: &[u8; ROWS],
+    rows: &[[u8; ROW]; ROWS],
+    doors: &[[u8; PLACE]; DOORS],
+    door: usize,
+    out: &mut [u8],
+) -> ReplyNumbers
+    ensures { λ r. ⌜ Gives r (now (out .exit)) (unitIn (now (owners .entry)) (now (rows .entry)) (now (doors .entry))) (step (unitIn (now (owners .entry)) (now (rows .entry)) (now (doors .entry))) (on door (resend (now (out .entry))))) ⌝ }
 {
-    let told = link_unit::resend(unit, door, out);
-    let given = told.reply;
-    let reply = reply_numbers(given);
-    let after = told.unit;
-    LinkReply { unit: after, reply }
+    let told = link_unit::resend(owners, rows, doors, door, out);
+    reply_numbers(told)
 }
 
 // What the connection is: encrypted, with its transcript, or plain.
 #[no_mangle]
-pub extern "C" fn door_link_result(unit: LinkUnit, door: usize, out: &mut [u8]) -> LinkResult
-    ensures { λ r. ⌜ GivesResult r (now (out .exit)) (step unit (on door (result (now (out .entry))))) ⌝ }
+pub extern "C" fn door_link_result(
+    owners: &[u8; ROWS],
+    rows: &[[u8; ROW]; ROWS],
+    doors: &[[u8; PLACE]; DOORS],
+    door: usize,
+    out: &mut [u8],
+) -> LinkResult
+    ensures { λ r. ⌜ GivesResult r (now (out .exit)) (unitIn (now (owners .entry)) (now (rows .entry)) (now (doors .entry))) (step (unitIn (now (owners .entry)) (now (rows .entry)) (now (doors .entry))) (on door (result (now (out .entry))))) ⌝ }
 {
-    let told = link_unit::result(unit, door, out);
+    let told = link_unit::result(owners, rows, doors, door, out);
     let given = told.reply;
     let reply = reply_numbers(given);
-    let after = told.unit;
     let secret = told.secret;
-    LinkResult {
-        unit: after,
-        reply,
-        secret,
-    }
+    LinkResult { reply, secret }
 }
 
 // The connection is over: Idle.
 #[no_mangle]
-pub extern "C" fn door_link_close(unit: LinkUnit, door: usize) -> LinkReply
-    ensures { λ r. ⌜ Gives r [] (step unit (on door close)) ⌝ }
+pub extern "C" fn door_link_close(
+    owners: &[u8; ROWS],
+    rows: &[[u8; ROW]; ROWS],
+    doors: &mut [[u8; PLACE]; DOORS],
+    door: usize,
+) -> ReplyNumbers
+    ensures { λ r. ⌜ (Gives r [] (unitIn (now (owners .entry)) (now (rows .entry)) (now (doors .exit))) (step (unitIn (now (owners .entry)) (now (rows .entry)) (now (doors .entry))) (on door close))) × DoorsKept door (now (doors .entry)) (now (doors .exit)) ⌝ }
 {
-    let told = link_unit::close(unit, door);
-    let given = told.reply;
-    let reply = reply_numbers(given);
-    let after = told.unit;
-    LinkReply { unit: after, reply }
+    let told = link_unit::close(owners, rows, doors, door);
+    reply_numbers(told)
 }
 
 // Adds a session record to a door.
 #[no_mangle]
 pub extern "C" fn door_link_store(
-    unit: LinkUnit,
+    owners: &mut [u8; ROWS],
+    rows: &mut [[u8; ROW]; ROWS],
+    doors: &mut [[u8; PLACE]; DOORS],
     door: usize,
     tep: u8,
     role: u8,
     identifier: &[u8],
     secret: &[u8],
-) -> LinkReply
-    ensures { λ r. ⌜ Gives r [] (step unit (on door (store tep role (now (identifier .entry)) (now (secret .entry))))) ⌝ }
+) -> ReplyNumbers
+    ensures { λ r. ⌜ (Gives r [] (unitIn (now (owners .exit)) (now (rows .exit)) (now (doors .exit))) (step (unitIn (now (owners .entry)) (now (rows .entry)) (now (doors .entry))) (on door (store tep role (now (identifier .entry)) (now (secret .entry)))))) × DoorsKept door (now (doors .entry)) (now (doors .exit)) ⌝ }
 {
-    let told = link_unit::store(unit, door, tep, role, identifier, secret);
-    let given = told.reply;
-    let reply = reply_numbers(given);
-    let after = told.unit;
-    LinkReply { unit: after, reply }
+    let told = link_unit::store(owners, rows, doors, door, tep, role, identifier, secret);
+    reply_numbers(told)
 }
 
 // Removes the session record with this TEP and identifier from a door.
 #[no_mangle]
 pub extern "C" fn door_link_forget(
-    unit: LinkUnit,
+    owners: &mut [u8; ROWS],
+    rows: &mut [[u8; ROW]; ROWS],
+    doors: &mut [[u8; PLACE]; DOORS],
     door: usize,
     tep: u8,
     identifier: &[u8],
-) -> LinkReply
-    ensures { λ r. ⌜ Gives r [] (step unit (on door (forget tep (now (identifier .entry))))) ⌝ }
+) -> ReplyNumbers
+    ensures { λ r. ⌜ (Gives r [] (unitIn (now (owners .exit)) (now (rows .exit)) (now (doors .exit))) (step (unitIn (now (owners .entry)) (now (rows .entry)) (now (doors .entry))) (on door (forget tep (now (identifier .entry)))))) × DoorsKept door (now (doors .entry)) (now (doors .exit)) ⌝ }
 {
-    let told = link_unit::forget(unit, door, tep, identifier);
-    let given = told.reply;
-    let reply = reply_numbers(given);
-    let after = told.unit;
-    LinkReply { unit: after, reply }
+    let told = link_unit::forget(owners, rows, doors, door, tep, identifier);
+    reply_numbers(told)
 }
 
 // How many session records a door holds.
 #[no_mangle]
-pub extern "C" fn door_link_count(unit: LinkUnit, door: usize) -> LinkReply
-    ensures { λ r. ⌜ Gives r [] (step unit (on door count)) ⌝ }
+pub extern "C" fn door_link_count(
+    owners: &[u8; ROWS],
+    rows: &[[u8; ROW]; ROWS],
+    doors: &[[u8; PLACE]; DOORS],
+    door: usize,
+) -> ReplyNumbers
+    ensures { λ r. ⌜ Gives r [] (unitIn (now (owners .entry)) (now (rows .entry)) (now (doors .entry))) (step (unitIn (now (owners .entry)) (now (rows .entry)) (now (doors .entry))) (on door count)) ⌝ }
 {
-    let told = link_unit::count(unit, door);
-    let given = told.reply;
-    let reply = reply_numbers(given);
-    let after = told.unit;
-    LinkReply { unit: after, reply }
-}
-
-// Empties the whole unit.
-#[no_mangle]
-pub extern "C" fn door_link_erase(unit: LinkUnit) -> LinkReply
-    ensures { λ r. ⌜ Gives r [] (step unit run.erase) ⌝ }
-{
-    let told = link_unit::erase(unit);
-    let given = told.reply;
-    let reply = reply_numbers(given);
-    let after = told.unit;
-    LinkReply { unit: after, reply }
-}
-
-// Whether an option area has an ENO option: 7 found, 8 none, 9 unreadable, with place and kind of the option that makes it so; refused with 2 above 40 bytes.
-#[no_mangle]
-pub extern "C" fn door_link_find_status(area: &[u8], syn: bool) -> ReplyNumbers
-    ensures { λ r. ⌜ r ≡ statusNumbers (status (finding (now (area .entry)) syn)) ⌝ }
-{
-    let says = finder::find_status(area, syn);
-    match says {
-        FindStatus::Found => of_kind(7, 0),
-        FindStatus::Nothing => of_kind(8, 0),
-        FindStatus::Unreadable { place, kind } => broken_numbers(place, kind),
-        FindStatus::Refused => of_kind(0, 2),
-    }
+    let told = link_unit::count(owners, rows, doors, door);
+    reply_numbers(told)
 }

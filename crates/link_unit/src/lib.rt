@@ -1,6 +1,9 @@
-// The unit's calls, in one place: any door number, any bytes, any order, any unit value. The definitions and theorems are those of crate unit.
+// The unit's calls, in one place: any door number, any bytes, any order, any content of the arrays that are lent. The definitions and theorems are those of crate unit.
 use door::Reply;
-use unit::LinkUnit;
+pub use unit::DOORS;
+pub use unit::ROWS;
+pub use unit_bytes::PLACE;
+pub use unit_bytes::ROW;
 pub use unit_opening::answer;
 pub use unit_opening::offer;
 pub use unit_records::count;
@@ -10,29 +13,22 @@ pub use unit_segments::close;
 pub use unit_segments::receive;
 pub use unit_segments::resend;
 pub use unit_segments::result;
-pub use unit_step::Replied;
 pub use unit_step::Resulted;
 ghost use mathlib.Core.Path.{_≡_};
 ghost use mathlib.Core.List.{[]};
-ghost use Rattle.unit.specs.Unit.{emptyUnit};
 ghost use Rattle.unit.specs.Run.{step};
 ghost use Rattle.unit.specs.Run as run;
+ghost use Rattle.unit_bytes.specs.Content.{unitIn};
 ghost use Rattle.unit_step.specs.Steps.{stepOf};
 
-// The empty unit: all doors Idle, no record held or in hand.
-pub fn new() -> LinkUnit
-    ensures { λ r. ⌜ r ≡ emptyUnit ⌝ }
+// Empties the whole unit, whatever its bytes are: all doors Idle, no record held or in hand.
+pub fn erase(
+    owners: &mut [u8; ROWS],
+    rows: &mut [[u8; ROW]; ROWS],
+    doors: &mut [[u8; PLACE]; DOORS],
+) -> Reply
+    ensures { λ r. ⌜ stepOf r [] (unitIn (now (owners .exit)) (now (rows .exit)) (now (doors .exit))) ≡ step (unitIn (now (owners .entry)) (now (rows .entry)) (now (doors .entry))) run.erase ⌝ }
 {
-    pool::empty_unit()
-}
-
-// Empties the whole unit.
-pub fn erase(unit: LinkUnit) -> Replied
-    ensures { λ r. ⌜ stepOf r [] ≡ step unit run.erase ⌝ }
-{
-    let empty = pool::empty_unit();
-    Replied {
-        unit: empty,
-        reply: Reply::Done,
-    }
+    pool::erase(owners, rows, doors);
+    Reply::Done
 }

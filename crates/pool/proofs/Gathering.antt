@@ -10,14 +10,14 @@ use lib.ListN.{length, getD, take, set, replicate, length-map, List·getD-eq-def
 use lib.Seq.{take-suc, length-take-le, take-at}
 use Rattle.eno.specs.declared.SessionRecord.{SessionRecord}
 use Rattle.door.specs.Numbers.{eachN}
-use Rattle.door.specs.Door.{Seen, noSession, idleDoor, seenOf}
+use Rattle.door.specs.Door.{Seen, noSession, seenOf}
 use Rattle.door.specs.declared.Door.{Door}
 use Rattle.door.specs.declared.View.{View}
-use Rattle.unit.specs.Numbers.{doorsN}
-use Rattle.unit.specs.Unit.{positionAt, countOf, mine, recordsAt, view}
+use Rattle.unit.specs.Unit.{countOf, mine, recordsAt}
 use Rattle.unit.specs.Laws.Lists.{map-snoc}
-use Rattle.unit.specs.declared.LinkUnit.{LinkUnit}
-use Rattle.pool.specs.Carried.{viewAt}
+use Rattle.unit.specs.declared.Position.{Position}
+use Rattle.unit_bytes.specs.Content.{rowsIn}
+use Rattle.pool.specs.Placed.{seenIn, gathered, viewIn}
 
 set-behind : {X : Type 0} (l : List X) (x s : X) (m : List X) (i : ℕ) → i ≡ length l → set (l ++ x ∷ m) i s ≡ l ++ s ∷ m
 set-behind [] x s m zero e = refl
@@ -34,10 +34,6 @@ pub getD-any : {X : Type 0} (l : List X) (i : ℕ) (d e : X) → i < length l �
 getD-any [] i d e h = absurd (omega arith)
 getD-any (x ∷ l) zero d e h = refl
 getD-any (x ∷ l) (suc i) d e h = getD-any l i d e (omega arith)
-
--- the first i records, then zeros
-unfoldable pub gathered : List SessionRecord → List ℕ → ℕ → List SessionRecord
-gathered rows numbers i = recordsAt rows (take i numbers) ++ replicate (eachN - i) noSession
 
 pub gathered-none : (rows : List SessionRecord) (numbers : List ℕ) → replicate eachN noSession ≡ gathered rows numbers 0
 unfolding gathered recordsAt eachN
@@ -79,18 +75,17 @@ module _ (rows : List SessionRecord) (numbers : List ℕ) (i : ℕ) (size : leng
   gathered-all held h e =
       ap (λ (l : List SessionRecord). take i l) e ∙ take-at (recordsAt rows (take i numbers)) (replicate (eachN - i) noSession) i (gathered-length h)
 
--- what the door sees
-pub seen-idle : (u : LinkUnit) (d : ℕ) (v : View) → doorsN ≤ d → v .door ≡ idleDoor → v .count ≡ 0 → seenOf v ≡ viewAt u d
-unfolding seenOf viewAt
-seen-idle u d v h e z = let m : min 0 eachN ≡ 0 = omega arith in rw (le-ltb d doorsN h, e, z, m)
-
+-- what a door with this position sees
 seenAs : Door → List SessionRecord → Seen
 seenAs l held = record { door = l; held = held }
 
-pub seen-gathered : (u : LinkUnit) (d : ℕ) (v : View) → d < doorsN → length (positionAt u d .rows) ≡ eachN
-    → v .door ≡ positionAt u d .door → v .count ≡ positionAt u d .count → v .held ≡ gathered (u .rows) (positionAt u d .rows) (countOf (positionAt u d)) → seenOf v ≡ viewAt u d
-unfolding seenOf viewAt seenAs
-seen-gathered u d v h size e f g =
-    let most : countOf (positionAt u d) ≤ eachN = omega arith in
-    ap₂ seenAs e (ap (λ (n : ℕ). take (min n eachN) (v .held)) f ∙ gathered-all (u .rows) (positionAt u d .rows) (countOf (positionAt u d)) size (v .held) most g)
-    ∙ sym (rw (lt-ltb d doorsN h))
+-- all are gathered
+module _ (rows : List (List ℕ)) (x : Position) (size : length (x .rows) ≡ eachN) where
+  pub seen-gathered : seenOf (viewIn rows x) ≡ seenIn rows x
+  unfolding seenOf seenAs
+  seen-gathered =
+      let most : countOf x ≤ eachN = omega arith in
+      ap (seenAs (x .door)) (gathered-all (rowsIn rows) (x .rows) (countOf x) size (gathered (rowsIn rows) (x .rows) (countOf x)) most refl)
+
+  pub view-gathered : (v : View) → v ≡ viewIn rows x → (v ≡ viewIn rows x) × (seenOf v ≡ seenIn rows x)
+  view-gathered v e = (e, ap seenOf e ∙ seen-gathered)

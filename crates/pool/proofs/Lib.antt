@@ -1,4 +1,3 @@
 -- Laws of the pool's functions.
 pub mod Rows
 pub mod Gathering
-pub mod Carrying

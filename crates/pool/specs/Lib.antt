@@ -1,2 +1,7 @@
--- The pool in code: definitions that its functions cite.
+-- The pool in place: what its functions leave, and the laws that the unit's calls cite.
 pub mod Carried
+pub mod Placed
+pub mod PlacedLaws
+pub mod Carrying
+pub mod Enacting
+pub mod EveryByte

@@ -1,40 +1,59 @@
-// The pool in code: what a door sees of the unit, and a call's effect carried out on the rows.
+// The pool in place: the whole unit in lent arrays, what a door sees of it, and a call's effect carried out on it.
 use door::Change;
 use door::Door;
 use door::EACH;
 use door::View;
 use eno::SessionRecord;
 use unit::DOORS;
-use unit::LinkUnit;
 use unit::Position;
 use unit::ROWS;
+use unit_bytes::PLACE;
+use unit_bytes::ROW;
 ghost use mathlib.Core.Path.{_≡_};
-ghost use Rattle.door.specs.Door.{seenOf};
-ghost use Rattle.door.specs.Outcome.{keep};
-ghost use Rattle.door.specs.Answers.{effectOf};
-ghost use Rattle.unit.specs.Unit.{firstFree, emptyUnit};
-ghost use Rattle.pool.specs.Carried.{viewAt, enactFit};
+ghost use Rattle.unit.specs.Unit.{firstFree};
+ghost use lib.ListN.{length, getD};
+ghost use Rattle.door.specs.Door.{noSession, seenOf};
+ghost use Rattle.unit.specs.Numbers.{rowsN};
+ghost use Rattle.unit_bytes.specs.Content.{rowsIn};
+ghost use Rattle.pool.specs.Placed.{Erased, positionFrom, Put, PutRow, seenIn, viewIn, Enacts};
 
-// The empty unit.
-pub fn empty_unit() -> LinkUnit
-    ensures { λ r. ⌜ r ≡ emptyUnit ⌝ }
+// The empty unit: rows and doors of zeros.
+pub fn erase(
+    owners: &mut [u8; ROWS],
+    rows: &mut [[u8; ROW]; ROWS],
+    doors: &mut [[u8; PLACE]; DOORS],
+)
+    ensures { λ _. ⌜ Erased (now (owners .exit)) (now (rows .exit)) (now (doors .exit)) ⌝ }
 {
-    let row = door::no_session();
-    let rows = [row; ROWS];
-    let owners = [0u8; ROWS];
-    let idle = door::idle_door();
-    let numbers = [0u8; EACH];
-    let position = Position {
-        door: idle,
-        count: 0,
-        rows: numbers,
-    };
-    let doors = [position; DOORS];
-    LinkUnit {
-        owners,
-        rows,
-        doors,
+    *owners = [0u8; ROWS];
+    let row = [0u8; ROW];
+    *rows = [row; ROWS];
+    let door = [0u8; PLACE];
+    *doors = [door; DOORS];
+}
+
+// A door's position; past the last an idle one.
+pub fn position_at(doors: &[[u8; PLACE]; DOORS], d: usize) -> Position
+    ensures { λ r. ⌜ r ≡ positionFrom (now (doors .entry)) d ⌝ }
+{
+    if DOORS <= d {
+        let zeros = [0u8; PLACE];
+        return unit_bytes::position_of(zeros);
     }
+    let bytes = doors[d];
+    unit_bytes::position_of(bytes)
+}
+
+// A door put in its place; past the last nothing is changed.
+pub fn put_door(doors: &mut [[u8; PLACE]; DOORS], d: usize, position: Position)
+    ensures { λ _. ⌜ Put (now (doors .entry)) (now (doors .exit)) d position ⌝ }
+{
+    if DOORS <= d {
+        return;
+    }
+    let old = doors[d];
+    let bytes = unit_bytes::bytes_of(old, position);
+    doors[d] = bytes;
 }
 
 // The lowest free row; the number of rows where none is free.
@@ -52,29 +71,36 @@ pub fn first_free(owners: &[u8]) -> usize
     i
 }
 
-// What a door sees.
-pub fn view_of(unit: LinkUnit, d: usize) -> View
-    ensures { λ r. ⌜ seenOf r ≡ viewAt unit d ⌝ }
+// The same for all owners, which are as many as there are rows.
+pub fn lowest_free(owners: [u8; ROWS]) -> usize
+    ensures { λ r. ⌜ (r ≡ firstFree owners) × (length owners ≡ rowsN) ⌝ }
+{
+    first_free(&owners)
+}
+
+// The record of a row; past the last the empty record.
+fn record_at(rows: &[[u8; ROW]; ROWS], number: u8) -> SessionRecord
+    ensures { λ r. ⌜ r ≡ getD (rowsIn (now (rows .entry))) number noSession ⌝ }
+{
+    let row = row_list::wide(number);
+    if ROWS <= row {
+        return door::no_session();
+    }
+    let bytes = rows[row];
+    unit_bytes::record_of(bytes)
+}
+
+// What a door with this position sees.
+pub fn view_of(rows: &[[u8; ROW]; ROWS], position: Position) -> View
+    ensures { λ r. ⌜ (r ≡ viewIn (now (rows .entry)) position) × (seenOf r ≡ seenIn (now (rows .entry)) position) ⌝ }
 {
     let zeros = door::no_session();
     let mut held = [zeros; EACH];
-    if DOORS <= d {
-        let idle = door::idle_door();
-        return View {
-            door: idle,
-            count: 0,
-            held,
-        };
-    }
-    let position = unit.doors[d];
     let n = row_list::count_of(position);
     let mut i = 0;
     while i < n {
-        let row = row_list::wide(position.rows[i]);
-        if row < ROWS {
-            let session = unit.rows[row];
-            held[i] = session;
-        }
+        let session = record_at(rows, position.rows[i]);
+        held[i] = session;
         i += 1;
     }
     View {
@@ -84,45 +110,45 @@ pub fn view_of(unit: LinkUnit, d: usize) -> View
     }
 }
 
-// The unit with other data of a door.
-pub fn with_door(unit: LinkUnit, d: usize, after: Door) -> LinkUnit
-    ensures { λ r. ⌜ r ≡ enactFit unit d after keep ⌝ }
+// A row and its owner put in their places; past the last nothing is changed.
+fn put_row(
+    owners: &mut [u8; ROWS],
+    rows: &mut [[u8; ROW]; ROWS],
+    row: usize,
+    owner: u8,
+    session: SessionRecord,
+)
+    ensures { λ _. ⌜ PutRow (now (owners .entry)) (now (owners .exit)) (now (rows .entry)) (now (rows .exit)) row owner session ⌝ }
 {
-    let mut u = unit;
-    if DOORS <= d {
-        return u;
+    let bytes = unit_bytes::row_of(session);
+    if ROWS <= row {
+        return;
     }
-    let mut position = u.doors[d];
-    position.door = after;
-    u.doors[d] = position;
-    u
+    owners[row] = owner;
+    rows[row] = bytes;
 }
 
-// The unit after a call's effect; `added` is the record of a change that adds one. The change is worked out on small values and stored at one
-// place, which saves copies of the unit.
+// A call's effect carried out; `added` is the record of a change that adds one.
 pub fn enacted(
-    unit: LinkUnit,
+    owners: &mut [u8; ROWS],
+    rows: &mut [[u8; ROW]; ROWS],
+    doors: &mut [[u8; PLACE]; DOORS],
     d: usize,
+    position: Position,
+    free: usize,
     after: Door,
     change: Change,
     added: SessionRecord,
-) -> LinkUnit
-    ensures { λ r. ⌜ r ≡ enactFit unit d after (effectOf change added) ⌝ }
+)
+    ensures { λ _. ⌜ Enacts (now (owners .entry)) (now (owners .exit)) (now (rows .entry)) (now (rows .exit)) (now (doors .entry)) (now (doors .exit)) d position free after change added ⌝ }
 {
-    let mut u = unit;
     if DOORS <= d {
-        return u;
+        return;
     }
-    let position = u.doors[d];
-    let free = first_free(&u.owners);
     let owner = (d + 1) as u8;
     let next = row_list::list_after(position, owner, change, free);
     let session = row_list::session_after(change, added);
-    let row = next.row;
-    if row < ROWS {
-        u.owners[row] = next.owner;
-        u.rows[row] = session;
-    }
+    put_row(owners, rows, next.row, next.owner, session);
     if next.fits {
         let numbers = next.numbers;
         let to = Position {
@@ -130,7 +156,6 @@ pub fn enacted(
             count: next.count,
             rows: numbers,
         };
-        u.doors[d] = to;
+        put_door(doors, d, to);
     }
-    u
 }

@@ -1,13 +1,12 @@
 -- The unit as the code has it: what a door sees of it, and what a call does to it. Odd values are read as stated here.
 use Prim.Native.Nat.{ℕ, zero, suc, _+_, _-_, min}
-use mathlib.Core.Bool.{Bool, true, false}
+use mathlib.Core.Bool.{Bool}
 use mathlib.Core.List.{List, [], _∷_, _++_, map}
 use lib.ListN.{length, getD, take, set, replicate}
 use lib.Dec.{ltb}
 use Rattle.eno.specs.declared.SessionRecord.{SessionRecord}
 use Rattle.door.specs.Numbers.{eachN}
 use Rattle.door.specs.Door.{Seen, noSession, idleDoor}
-use Rattle.door.specs.Record.{pastEnd}
 use Rattle.door.specs.Outcome.{Effect, keep, add, remove}
 use Rattle.door.specs.Calls.{cut}
 use Rattle.door.specs.declared.Door.{Door}
@@ -22,25 +21,9 @@ idlePosition = record { door = idleDoor; count = 0; rows = replicate eachN 0 }
 unfoldable pub emptyUnit : LinkUnit
 emptyUnit = record { owners = replicate rowsN 0; rows = replicate rowsN noSession; doors = replicate doorsN idlePosition }
 
--- what stands past the last door
-abbrev pub pastDoor : Door
-pastDoor =
-    record {
-      phase = 0;
-      mandatory = false;
-      cause = record { reason = 0; place = 0; kind = 0 };
-      role = 0;
-      tep = 0;
-      resumed = false;
-      «own_length» = 0;
-      «peer_length» = 0;
-      own = [];
-      peer = [];
-      hand = record { held = false; session = pastEnd };
-    }
-
+-- past the last door an idle one stands
 abbrev pub pastPosition : Position
-pastPosition = record { door = pastDoor; count = 0; rows = [] }
+pastPosition = idlePosition
 
 abbrev pub positionAt : LinkUnit → ℕ → Position
 positionAt u d = getD (u .doors) d pastPosition

@@ -30,14 +30,6 @@ over-writes zero true = inr (inl refl)
 over-writes (suc n) false = inl refl
 over-writes (suc n) true = inr (inr refl)
 
--- and where the byte was 0 or 1 it is so again
-pub over-tidy : (o : ℕ) (x : Bool) → o ≤ 1 → flagOver o x ≤ 1
-unfolding flagOver flagOf
-over-tidy zero false h = omega arith
-over-tidy zero true h = omega arith
-over-tidy (suc n) false h = omega arith
-over-tidy (suc n) true h = h
-
 -- the three ways of a flag that is written, and the two of a flag that is read
 pub over-empty : (o : ℕ) (x : Bool) → x ≡ false → 0 ≡ flagOver o x
 unfolding flagOver flagOf

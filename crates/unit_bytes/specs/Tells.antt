@@ -2,7 +2,7 @@
 use Prim.Native.Nat.{ℕ, zero, suc, _+_, _≤_, _<_}
 use mathlib.Core.Path.{_≡_, refl, sym, _∙_, ap, subst}
 use mathlib.Core.List.{List, [], _∷_, _++_}
-use mathlib.Core.Logic.{_⊎_}
+use mathlib.Core.Logic.{_⊎_, inl, inr}
 use native.Mathlib.Omega.{arith}
 use lib.Dec.{lit≤}
 use lib.ListN.{length, getD, replicate, getD-replicate}
@@ -16,7 +16,7 @@ use Rattle.unit.specs.declared.Position.{Position}
 use Rattle.unit.specs.declared.LinkUnit.{LinkUnit}
 use Rattle.unit_bytes.specs.Layout.{rowSize, rowIdentifierAt, rowSecretAt, doorSize, numbersSize, ownAt, peerAt, identifierAt, secretAt, mandatoryAt, resumedAt, heldAt}
 use Rattle.unit_bytes.specs.Content.{isSet, flagOf, flagOver, recordIn, rowOf, positionIn, numbersOf, bytesOf, unitIn}
-use Rattle.unit_bytes.specs.Laws.{over-writes, over-tidy}
+use Rattle.unit_bytes.specs.Laws.{over-writes}
 use Rattle.unit_bytes.specs.Whole.{door-in, row-in}
 
 -- parts one after the other
@@ -115,6 +115,20 @@ pub record FlagsOver (o b : List ℕ) : Type 0 where
   pub resumed-from : (getD b resumedAt 0 ≡ 0) ⊎ ((getD b resumedAt 0 ≡ 1) ⊎ (getD b resumedAt 0 ≡ getD o resumedAt 0))
   pub held-from : (getD b heldAt 0 ≡ 0) ⊎ ((getD b heldAt 0 ≡ 1) ⊎ (getD b heldAt 0 ≡ getD o heldAt 0))
 
+-- as they are in bytes that stay
+pub flags-same : (b : List ℕ) → FlagsOver b b
+flags-same b = record { mandatory-from = inr (inr refl); resumed-from = inr (inr refl); held-from = inr (inr refl) }
+
+flag-tidy : (x y : ℕ) → (y ≡ 0) ⊎ ((y ≡ 1) ⊎ (y ≡ x)) → x ≤ 1 → y ≤ 1
+flag-tidy x y (inl e) h = omega arith
+flag-tidy x y (inr (inl e)) h = omega arith
+flag-tidy x y (inr (inr e)) h = omega arith
+
+-- so flags that are 0 or 1 stay 0 or 1
+pub flags-stay : (o b : List ℕ) → FlagsOver o b → Tidy o → Tidy b
+flags-stay o b f t =
+    record { mandatory = flag-tidy _ _ (f .mandatory-from) (t .mandatory); resumed = flag-tidy _ _ (f .resumed-from) (t .resumed); held = flag-tidy _ _ (f .held-from) (t .held) }
+
 module _ (o : List ℕ) (x : Position) where
   pub flags-written : FlagsOver o (bytesOf o x)
   unfolding bytesOf numbersOf
@@ -123,16 +137,6 @@ module _ (o : List ℕ) (x : Position) where
         mandatory-from = over-writes (getD o mandatoryAt 0) (x .door .mandatory);
         resumed-from = over-writes (getD o resumedAt 0) (x .door .resumed);
         held-from = over-writes (getD o heldAt 0) (x .door .hand .held);
-      }
-
-  -- so flags that are 0 or 1 stay 0 or 1
-  pub flags-stay : Tidy o → Tidy (bytesOf o x)
-  unfolding bytesOf numbersOf
-  flags-stay t =
-      record {
-        mandatory = over-tidy (getD o mandatoryAt 0) (x .door .mandatory) (t .mandatory);
-        resumed = over-tidy (getD o resumedAt 0) (x .door .resumed) (t .resumed);
-        held = over-tidy (getD o heldAt 0) (x .door .hand .held) (t .held);
       }
 
 -- as they are in a door of zeros

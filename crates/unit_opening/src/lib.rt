@@ -1,17 +1,22 @@
-// offer and answer: the unit's calls that open a connection, for any door number, any bytes and any unit value.
+// offer and answer: the unit's calls that open a connection, for any door number, any bytes and any content of the unit.
 use door::Refusal;
 use door::Reply;
 use unit::DOORS;
-use unit::LinkUnit;
-use unit_step::Replied;
+use unit::ROWS;
+use unit_bytes::PLACE;
+use unit_bytes::ROW;
 ghost use mathlib.Core.Path.{_≡_};
 ghost use Rattle.door.specs.Calls.{offer, answer};
 ghost use Rattle.unit.specs.Run.{on, step};
+ghost use Rattle.unit_bytes.specs.Content.{unitIn};
+ghost use Rattle.pool.specs.Placed.{DoorsKept};
 ghost use Rattle.unit_step.specs.Steps.{stepOf};
 
 // An active open, or one that may cross: writes this end's option.
 pub fn offer(
-    unit: LinkUnit,
+    owners: &mut [u8; ROWS],
+    rows: &mut [[u8; ROW]; ROWS],
+    doors: &mut [[u8; PLACE]; DOORS],
     door: usize,
     b: u8,
     aware: bool,
@@ -20,27 +25,37 @@ pub fn offer(
     resume: bool,
     nonce: &[u8],
     out: &mut [u8],
-) -> Replied
-    ensures { λ r. ⌜ stepOf r (now (out .exit)) ≡ step unit (on door (offer b aware mandatory (now (teps .entry)) resume (now (nonce .entry)) (now (out .entry)))) ⌝ }
+) -> Reply
+    ensures { λ r. ⌜ (stepOf r (now (out .exit)) (unitIn (now (owners .exit)) (now (rows .exit)) (now (doors .exit))) ≡ step (unitIn (now (owners .entry)) (now (rows .entry)) (now (doors .entry))) (on door (offer b aware mandatory (now (teps .entry)) resume (now (nonce .entry)) (now (out .entry))))) × DoorsKept door (now (doors .entry)) (now (doors .exit)) ⌝ }
 {
     if DOORS <= door {
-        return Replied {
-            unit,
-            reply: Reply::Refused(Refusal::NoDoor),
-        };
+        return Reply::Refused(Refusal::NoDoor);
     }
-    let active = pool::view_of(unit, door);
+    let position = pool::position_at(doors, door);
+    let active = pool::view_of(rows, position);
     let told = offering::offer(active, b, aware, mandatory, teps, resume, nonce, out);
     let zeros = door::no_session();
     let change = told.change;
-    let after = pool::enacted(unit, door, told.door, change, zeros);
-    let reply = told.reply;
-    Replied { unit: after, reply }
+    let after = told.door;
+    pool::enacted(
+        owners,
+        rows,
+        doors,
+        door,
+        position,
+        ROWS,
+        after,
+        change,
+        zeros,
+    );
+    told.reply
 }
 
 // A passive open: takes the area of a received SYN and writes this end's option, or ends in plain TCP.
 pub fn answer(
-    unit: LinkUnit,
+    owners: &mut [u8; ROWS],
+    rows: &mut [[u8; ROW]; ROWS],
+    doors: &mut [[u8; PLACE]; DOORS],
     door: usize,
     area: &[u8],
     aware: bool,
@@ -48,20 +63,28 @@ pub fn answer(
     teps: &[u8],
     nonce: &[u8],
     out: &mut [u8],
-) -> Replied
-    ensures { λ r. ⌜ stepOf r (now (out .exit)) ≡ step unit (on door (answer (now (area .entry)) aware mandatory (now (teps .entry)) (now (nonce .entry)) (now (out .entry)))) ⌝ }
+) -> Reply
+    ensures { λ r. ⌜ (stepOf r (now (out .exit)) (unitIn (now (owners .exit)) (now (rows .exit)) (now (doors .exit))) ≡ step (unitIn (now (owners .entry)) (now (rows .entry)) (now (doors .entry))) (on door (answer (now (area .entry)) aware mandatory (now (teps .entry)) (now (nonce .entry)) (now (out .entry))))) × DoorsKept door (now (doors .entry)) (now (doors .exit)) ⌝ }
 {
     if DOORS <= door {
-        return Replied {
-            unit,
-            reply: Reply::Refused(Refusal::NoDoor),
-        };
+        return Reply::Refused(Refusal::NoDoor);
     }
-    let passive = pool::view_of(unit, door);
+    let position = pool::position_at(doors, door);
+    let passive = pool::view_of(rows, position);
     let told = answering::answer(passive, area, aware, mandatory, teps, nonce, out);
     let zeros = door::no_session();
     let change = told.change;
-    let after = pool::enacted(unit, door, told.door, change, zeros);
-    let reply = told.reply;
-    Replied { unit: after, reply }
+    let after = told.door;
+    pool::enacted(
+        owners,
+        rows,
+        doors,
+        door,
+        position,
+        ROWS,
+        after,
+        change,
+        zeros,
+    );
+    told.reply
 }

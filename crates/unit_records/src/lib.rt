@@ -1,75 +1,104 @@
-// store, forget and count: the unit's calls on a door's session records, for any door number, any bytes and any unit value.
+// store, forget and count: the unit's calls on a door's session records, for any door number, any bytes and any content of the unit.
 use door::Refusal;
 use door::Reply;
 use unit::DOORS;
-use unit::LinkUnit;
 use unit::ROWS;
-use unit_step::Replied;
+use unit_bytes::PLACE;
+use unit_bytes::ROW;
 ghost use mathlib.Core.Path.{_≡_};
 ghost use mathlib.Core.List.{[]};
 ghost use Rattle.door.specs.Calls.{store, forget, count};
 ghost use Rattle.unit.specs.Run.{on, step};
+ghost use Rattle.unit_bytes.specs.Content.{unitIn};
+ghost use Rattle.pool.specs.Placed.{DoorsKept};
 ghost use Rattle.unit_step.specs.Steps.{stepOf};
 
 // Adds a session record to a door.
 pub fn store(
-    unit: LinkUnit,
+    owners: &mut [u8; ROWS],
+    rows: &mut [[u8; ROW]; ROWS],
+    doors: &mut [[u8; PLACE]; DOORS],
     door: usize,
     tep: u8,
     role: u8,
     identifier: &[u8],
     secret: &[u8],
-) -> Replied
-    ensures { λ r. ⌜ stepOf r [] ≡ step unit (on door (store tep role (now (identifier .entry)) (now (secret .entry)))) ⌝ }
+) -> Reply
+    ensures { λ r. ⌜ (stepOf r [] (unitIn (now (owners .exit)) (now (rows .exit)) (now (doors .exit))) ≡ step (unitIn (now (owners .entry)) (now (rows .entry)) (now (doors .entry))) (on door (store tep role (now (identifier .entry)) (now (secret .entry))))) × DoorsKept door (now (doors .entry)) (now (doors .exit)) ⌝ }
 {
     if DOORS <= door {
-        return Replied {
-            unit,
-            reply: Reply::Refused(Refusal::NoDoor),
-        };
+        return Reply::Refused(Refusal::NoDoor);
     }
-    let view = pool::view_of(unit, door);
-    let row = pool::first_free(&unit.owners);
+    let position = pool::position_at(doors, door);
+    let view = pool::view_of(rows, position);
+    let all = *owners;
+    let row = pool::lowest_free(all);
     let free = row < ROWS;
     let told = records::store(view, free, tep, role, identifier, secret);
     let before = view.door;
     let change = told.change;
-    let after = pool::enacted(unit, door, before, change, told.added);
-    let reply = told.reply;
-    Replied { unit: after, reply }
+    let added = told.added;
+    pool::enacted(
+        owners,
+        rows,
+        doors,
+        door,
+        position,
+        row,
+        before,
+        change,
+        added,
+    );
+    told.reply
 }
 
 // Removes the session record with this TEP and identifier from a door.
-pub fn forget(unit: LinkUnit, door: usize, tep: u8, identifier: &[u8]) -> Replied
-    ensures { λ r. ⌜ stepOf r [] ≡ step unit (on door (forget tep (now (identifier .entry)))) ⌝ }
+pub fn forget(
+    owners: &mut [u8; ROWS],
+    rows: &mut [[u8; ROW]; ROWS],
+    doors: &mut [[u8; PLACE]; DOORS],
+    door: usize,
+    tep: u8,
+    identifier: &[u8],
+) -> Reply
+    ensures { λ r. ⌜ (stepOf r [] (unitIn (now (owners .exit)) (now (rows .exit)) (now (doors .exit))) ≡ step (unitIn (now (owners .entry)) (now (rows .entry)) (now (doors .entry))) (on door (forget tep (now (identifier .entry))))) × DoorsKept door (now (doors .entry)) (now (doors .exit)) ⌝ }
 {
     if DOORS <= door {
-        return Replied {
-            unit,
-            reply: Reply::Refused(Refusal::NoDoor),
-        };
+        return Reply::Refused(Refusal::NoDoor);
     }
-    let view = pool::view_of(unit, door);
+    let position = pool::position_at(doors, door);
+    let view = pool::view_of(rows, position);
     let told = records::forget(view, tep, identifier);
     let before = view.door;
     let change = told.change;
     let zeros = door::no_session();
-    let after = pool::enacted(unit, door, before, change, zeros);
-    let reply = told.reply;
-    Replied { unit: after, reply }
+    pool::enacted(
+        owners,
+        rows,
+        doors,
+        door,
+        position,
+        ROWS,
+        before,
+        change,
+        zeros,
+    );
+    told.reply
 }
 
 // How many session records a door holds.
-pub fn count(unit: LinkUnit, door: usize) -> Replied
-    ensures { λ r. ⌜ stepOf r [] ≡ step unit (on door count) ⌝ }
+pub fn count(
+    owners: &[u8; ROWS],
+    rows: &[[u8; ROW]; ROWS],
+    doors: &[[u8; PLACE]; DOORS],
+    door: usize,
+) -> Reply
+    ensures { λ r. ⌜ stepOf r [] (unitIn (now (owners .entry)) (now (rows .entry)) (now (doors .entry))) ≡ step (unitIn (now (owners .entry)) (now (rows .entry)) (now (doors .entry))) (on door (count)) ⌝ }
 {
     if DOORS <= door {
-        return Replied {
-            unit,
-            reply: Reply::Refused(Refusal::NoDoor),
-        };
+        return Reply::Refused(Refusal::NoDoor);
     }
-    let holder = pool::view_of(unit, door);
-    let held = records::count(holder);
-    Replied { unit, reply: held }
+    let position = pool::position_at(doors, door);
+    let holder = pool::view_of(rows, position);
+    records::count(holder)
 }

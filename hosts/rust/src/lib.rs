@@ -11,7 +11,7 @@
 //! | captures and diagnosis | [`find_status`], [`judge`] |
 //!
 //! No call panics. A call that is refused leaves the unit or the record and the lent buffer as found; beyond the bytes that a call reports as written,
-//! a lent buffer stays as it was. Every number, length and byte is allowed in every argument. A call of the unit needs up to about 80 KB of stack.
+//! a lent buffer stays as it was. Every number, length and byte is allowed in every argument. A call of the unit needs less than 4 KB of stack.
 //!
 //! # A fresh connection
 //!

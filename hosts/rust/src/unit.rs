@@ -37,10 +37,14 @@ pub struct Answer<'a> {
     pub nonce: &'a [u8],
 }
 
-/// All doors and the pool of session records, as one value.
+/// All doors and the pool of session records: 8,640 bytes, which each call changes in place.
 ///
-/// A unit holds secrets: [`Debug`](fmt::Debug) shows none of its bytes, and it is overwritten when dropped. A record that is dropped, forgotten or erased is
-/// zeros in the unit afterwards. Copies that the compiler makes of a unit where it is moved or passed to a call are not overwritten.
+/// A unit holds secrets: [`Debug`](fmt::Debug) shows none of its bytes, and it is erased when dropped. A record that is dropped, forgotten or erased is
+/// zeros in the unit afterwards. A call leaves no other door's secret on the stack. Where a unit is moved, its bytes stay behind in the place that it left:
+/// keep it where it was made, behind a reference.
+///
+/// Go on from the latest unit alone: an older copy still holds the session records that were used since, and would propose them again, which RFC 8548,
+/// section 3.5, forbids.
 #[derive(Clone)]
 pub struct LinkUnit {
     unit: ffi::Unit,
@@ -52,28 +56,14 @@ impl LinkUnit {
         LinkUnit { unit: ffi::new() }
     }
 
-    /// Takes the unit that a call gave back, and the value of its reply, if it is one that the call has.
-    fn take<T>(
-        &mut self,
-        step: &ffi::Step,
-        room: usize,
-        value: impl FnOnce(Told) -> Option<T>,
-    ) -> Result<T, Error> {
-        let outcome = read(&step.reply, room, value);
-        if !matches!(outcome, Err(Error::Unexpected)) {
-            self.unit = step.unit;
-        }
-        outcome
-    }
-
     /// An active open, or one that may cross with the other side's: writes this end's ENO option, to be put into the SYN's option area, and gives
     /// its length; 24 bytes are always enough. In Idle; Offered then.
     ///
     /// Refused: 1; 3 where `b` is above 1, `teps` is empty, above four, repeated or unknown, `nonce` is above 8 bytes, or `mandatory` without `aware`;
     /// 4 not Idle; 5.
     pub fn offer(&mut self, door: usize, ask: Offer<'_>, out: &mut [u8]) -> Result<usize, Error> {
-        let step = ffi::offer(&self.unit, door, &ask, out);
-        self.take(&step, out.len(), Told::written)
+        let reply = ffi::offer(&mut self.unit, door, &ask, out);
+        read(&reply, out.len(), Told::written)
     }
 
     /// A passive open: takes the option area of a received SYN, chooses a TEP, and writes this end's ENO option for the SYN+ACK, for which 21 bytes are
@@ -82,8 +72,8 @@ impl LinkUnit {
     ///
     /// Refused: 1; 2; 3 where `teps` is empty, above four, repeated or unknown, `nonce` is above 8 bytes, or `mandatory` without `aware`; 4 not Idle; 5.
     pub fn answer(&mut self, door: usize, ask: Answer<'_>, out: &mut [u8]) -> Result<Reply, Error> {
-        let step = ffi::answer(&self.unit, door, &ask, out);
-        self.take(&step, out.len(), |told| match told {
+        let reply = ffi::answer(&mut self.unit, door, &ask, out);
+        read(&reply, out.len(), |told| match told {
             Told::Written(length) => Some(Reply::Written(length)),
             Told::Plain(reason) => Some(Reply::Plain(reason)),
             _ => None,
@@ -105,8 +95,8 @@ impl LinkUnit {
         ack: bool,
         area: &[u8],
     ) -> Result<Phase, Error> {
-        let step = ffi::receive(&self.unit, door, syn, ack, area);
-        self.take(&step, 0, |told| match told {
+        let reply = ffi::receive(&mut self.unit, door, syn, ack, area);
+        read(&reply, 0, |told| match told {
             Told::Now(phase) => Some(phase),
             Told::Plain(reason) => Some(Phase::Plain(reason)),
             _ => None,
@@ -117,8 +107,8 @@ impl LinkUnit {
     ///
     /// Refused: 1; 4 where the door is not Offered, Crossed or Answered; 5.
     pub fn resend(&self, door: usize, out: &mut [u8]) -> Result<usize, Error> {
-        let step = ffi::resend(&self.unit, door, out);
-        read(&step.reply, out.len(), Told::written)
+        let reply = ffi::resend(&self.unit, door, out);
+        read(&reply, out.len(), Told::written)
     }
 
     /// What the connection is. In Open it writes the transcript, for which 80 bytes are always enough; in Plain it gives the reason, with place and kind
@@ -126,16 +116,16 @@ impl LinkUnit {
     ///
     /// Refused: 1; 4 where the door is neither Open nor Plain; 5 in Open.
     pub fn result(&self, door: usize, out: &mut [u8]) -> Result<Outcome, Error> {
-        let step = ffi::result(&self.unit, door, out);
-        outcome(&step.reply, out.len(), step.secret)
+        let told = ffi::result(&self.unit, door, out);
+        outcome(&told.reply, out.len(), told.secret)
     }
 
     /// The connection is over: Idle, from any phase. A record in hand is dropped and overwritten; those that the door holds stay.
     ///
     /// Refused: 1.
     pub fn close(&mut self, door: usize) -> Result<(), Error> {
-        let step = ffi::close(&self.unit, door);
-        self.take(&step, 0, Told::done)
+        let reply = ffi::close(&mut self.unit, door);
+        read(&reply, 0, Told::done)
     }
 
     /// Adds a session record to a door, as its newest; any phase. `tep` is without v; `role` is this end's role in the connection that made the
@@ -151,24 +141,24 @@ impl LinkUnit {
         identifier: &[u8],
         secret: &[u8],
     ) -> Result<(), Error> {
-        let step = ffi::store(&self.unit, door, tep, role, identifier, secret);
-        self.take(&step, 0, Told::done)
+        let reply = ffi::store(&mut self.unit, door, tep, role, identifier, secret);
+        read(&reply, 0, Told::done)
     }
 
     /// Removes a session record from a door and overwrites it; any phase. A record in hand, or at another door, is not held here.
     ///
     /// Refused: 1; 3 where `tep` is unknown or `identifier` is not 18 bytes; 16.
     pub fn forget(&mut self, door: usize, tep: u8, identifier: &[u8]) -> Result<(), Error> {
-        let step = ffi::forget(&self.unit, door, tep, identifier);
-        self.take(&step, 0, Told::done)
+        let reply = ffi::forget(&mut self.unit, door, tep, identifier);
+        read(&reply, 0, Told::done)
     }
 
     /// How many session records a door holds; one in hand is not counted. Changes nothing.
     ///
     /// Refused: 1.
     pub fn count(&self, door: usize) -> Result<usize, Error> {
-        let step = ffi::count(&self.unit, door);
-        read(&step.reply, 0, |told| match told {
+        let reply = ffi::count(&self.unit, door);
+        read(&reply, 0, |told| match told {
             Told::Holds(count) => Some(count),
             _ => None,
         })
@@ -176,8 +166,8 @@ impl LinkUnit {
 
     /// Empties the whole unit: all records, all doors. Never refused.
     pub fn erase(&mut self) -> Result<(), Error> {
-        let step = ffi::erase(&self.unit);
-        self.take(&step, 0, Told::done)
+        let reply = ffi::erase(&mut self.unit);
+        read(&reply, 0, Told::done)
     }
 }
 
@@ -195,7 +185,7 @@ impl fmt::Debug for LinkUnit {
 
 impl Drop for LinkUnit {
     fn drop(&mut self) {
-        self.unit.overwrite();
+        ffi::erase(&mut self.unit);
     }
 }
 

@@ -1,11 +1,11 @@
--- `unit_calls::door_link_offer` meets its contract.
+-- `host::door_link_offer` meets its contract.
 use Rattle.host.proofs.Giving.{gives}
 use borrow.Author.Needs.{needs}
 use Rattle.host.proofs.door_link_offer.Statement.{statement}
 use Rattle.host.proofs.door_link_offer.Tie as tie
 use Rattle.host.proofs.door_link_offer.Reads as reads
 use Rattle.host.proofs.door_link_offer.Lts as lts
-use Rattle.host.proofs.reply_numbers.Reads as reply-numbers-reads
+use Rattle.host_numbers.proofs.reply_numbers.Reads as reply-numbers-reads
 
 offer-requires : tie.Need-offer-requires
 offer-requires c κs = search needs
@@ -17,7 +17,7 @@ same-length : tie.Need-same-length
 same-length c = search needs
 
 returns : tie.Need-returns
-returns c = let told = c .before .before .before .before .offer in gives (told .result) _ _ _ (c .before .reply-numbers .ensures) (told .ensures)
+returns c = (gives (c .before .before .before .offer .result) _ _ _ _ (c .reply-numbers .ensures) (c .before .before .before .offer .ensures .0), c .before .before .before .offer .ensures .1)
 
 pub door-link-offer-spec : {M : Type 1} → statement M
 door-link-offer-spec =

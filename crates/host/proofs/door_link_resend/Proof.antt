@@ -1,11 +1,11 @@
--- `unit_calls::door_link_resend` meets its contract.
+-- `host::door_link_resend` meets its contract.
 use Rattle.host.proofs.Giving.{gives}
 use borrow.Author.Needs.{needs}
 use Rattle.host.proofs.door_link_resend.Statement.{statement}
 use Rattle.host.proofs.door_link_resend.Tie as tie
 use Rattle.host.proofs.door_link_resend.Reads as reads
 use Rattle.host.proofs.door_link_resend.Lts as lts
-use Rattle.host.proofs.reply_numbers.Reads as reply-numbers-reads
+use Rattle.host_numbers.proofs.reply_numbers.Reads as reply-numbers-reads
 
 resend-requires : tie.Need-resend-requires
 resend-requires c κs = search needs
@@ -17,7 +17,7 @@ same-length : tie.Need-same-length
 same-length c = search needs
 
 returns : tie.Need-returns
-returns c = let told = c .before .before .before .before .resend in gives (told .result) _ _ _ (c .before .reply-numbers .ensures) (told .ensures)
+returns c = gives (c .before .before .before .resend .result) _ _ _ _ (c .reply-numbers .ensures) (c .before .before .before .resend .ensures)
 
 pub door-link-resend-spec : {M : Type 1} → statement M
 door-link-resend-spec =

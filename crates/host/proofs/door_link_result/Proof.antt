@@ -1,11 +1,11 @@
--- `unit_calls::door_link_result` meets its contract.
+-- `host::door_link_result` meets its contract.
 use Rattle.host.proofs.Giving.{gives-result}
 use borrow.Author.Needs.{needs}
 use Rattle.host.proofs.door_link_result.Statement.{statement}
 use Rattle.host.proofs.door_link_result.Tie as tie
 use Rattle.host.proofs.door_link_result.Reads as reads
 use Rattle.host.proofs.door_link_result.Lts as lts
-use Rattle.host.proofs.reply_numbers.Reads as reply-numbers-reads
+use Rattle.host_numbers.proofs.reply_numbers.Reads as reply-numbers-reads
 
 result-requires : tie.Need-result-requires
 result-requires c κs = search needs
@@ -17,7 +17,7 @@ same-length : tie.Need-same-length
 same-length c = search needs
 
 returns : tie.Need-returns
-returns c = let told = c .before .before .before .before .before .result in gives-result (told .result) _ _ _ (c .before .before .reply-numbers .ensures) (told .ensures .0) (told .ensures .1)
+returns c = gives-result (c .before .before .before .before .result .result) _ _ _ _ (c .before .reply-numbers .ensures) (c .before .before .before .before .result .ensures .0) (c .before .before .before .before .result .ensures .1)
 
 pub door-link-result-spec : {M : Type 1} → statement M
 door-link-result-spec =

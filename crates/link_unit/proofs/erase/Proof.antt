@@ -10,14 +10,14 @@ use Rattle.link_unit.proofs.erase.Statement.{statement}
 use Rattle.link_unit.proofs.erase.Tie as tie
 use Rattle.link_unit.proofs.erase.Reads as reads
 use Rattle.link_unit.proofs.erase.Lts as lts
-use Rattle.pool.proofs.empty_unit.Reads as empty-unit-reads
+use Rattle.pool.proofs.erase.Reads as erase-reads
 
-empty-unit-requires : tie.Need-empty-unit-requires
-empty-unit-requires c κs = search needs
+erase-requires : tie.Need-erase-requires
+erase-requires c κs = search needs
 
 returns : tie.Need-returns
 unfolding step
-returns c = ap (λ (u : LinkUnit). stepAs done [] u) (c .empty-unit .ensures)
+returns c = ap (λ (u : LinkUnit). stepAs done [] u) (c .erase .ensures .empty)
 
 pub erase-spec : {M : Type 1} → statement M
-erase-spec = tie.close (tie.spec empty-unit-requires returns)
+erase-spec = tie.close (tie.spec erase-requires returns)

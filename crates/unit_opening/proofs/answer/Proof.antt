@@ -1,23 +1,33 @@
 -- `unit_opening::answer` meets its contract.
-use native.Mathlib.Omega.{arith}
-use denote.Ref.{now}
+use Rattle.unit_step.specs.InPlace.{step-taken}
 use Rattle.door.specs.Calls.{answer, outcome}
+use Rattle.pool.specs.PlacedLaws.{doors-same, enacts-kept}
+use Rattle.unit_step.specs.Stepping.{step-past}
+use Rattle.unit_bytes.specs.Content.{unitIn}
+use Rattle.unit.specs.Numbers.{doorsN, rowsN}
 use Rattle.door.specs.Numbered.{lentOf}
-use Rattle.unit.specs.Numbers.{doorsN}
-use Rattle.unit_step.specs.Stepping.{with-zeros, step-past, step-carried}
+use denote.Ref.{now}
+use mathlib.Core.Path.{refl}
+use native.Mathlib.Omega.{arith}
 use borrow.Author.Needs.{needs}
 use Rattle.unit_opening.proofs.answer.Statement.{statement}
 use Rattle.unit_opening.proofs.answer.Tie as tie
 use Rattle.unit_opening.proofs.answer.Reads as reads
 use Rattle.unit_opening.proofs.answer.Lts as lts
-use Rattle.door.proofs.no_session.Reads as no-session-reads
 use Rattle.answering.proofs.answer.Reads as answer-reads
+use Rattle.door.proofs.no_session.Reads as no-session-reads
 use Rattle.pool.proofs.enacted.Reads as enacted-reads
+use Rattle.pool.proofs.position_at.Reads as position-at-reads
 use Rattle.pool.proofs.view_of.Reads as view-of-reads
 
 returns : tie.Need-returns
 unfolding doorsN lentOf
-returns c = let a = c .before .before .before .before .before .args in step-past (a .unit) (a .door) (answer (now (a .area)) (a .aware) (a .mandatory) (now (a .teps)) (now (a .nonce)) (now (a .out))) (omega arith)
+returns c =
+    let a = c .before .before .before .before .before .args in
+    (step-past (unitIn (a .owners .now) (a .rows .now) (a .doors .now)) (a .door) (answer (now (a .area)) (a .aware) (a .mandatory) (now (a .teps)) (now (a .nonce)) (a .out .now)) (omega arith), doors-same (a .door) (a .doors .now))
+
+position-at-requires : tie.Need-position-at-requires
+position-at-requires c κs = search needs
 
 view-of-requires : tie.Need-view-of-requires
 view-of-requires c κs = search needs
@@ -35,18 +45,17 @@ same-length : tie.Need-same-length
 same-length c = search needs
 
 returns-2 : tie.Need-returns-2
-unfolding doorsN outcome
+unfolding doorsN rowsN outcome
 returns-2 c =
-    let a = c .before .before .before .before .before .before .before .before .before .before .before .before .args in
-    let told = c .before .before .before .before .answer in
-    step-carried (a .unit) (a .door) (omega arith) (answer (now (a .area)) (a .aware) (a .mandatory) (now (a .teps)) (now (a .nonce)) (now (a .out))) _ _ _ _ _ _ (c .before .before .before .before .before .before .view-of .ensures) (told .ensures)
-    (with-zeros (a .unit) (a .door) (told .result .door) (told .result .change) _ _ (c .before .no-session .ensures) (c .enacted .ensures))
+    let a = c .before .before .before .before .before .before .before .before .before .before .before .before .before .before .before .before .before .before .before .args in
+    (step-taken (a .owners .now) (a .rows .now) (a .doors .now) (a .door) (omega (arith, c .before .before .before .before .before .before .before .before .before .before .before .before .before .before .if1 .left)) _ (c .before .before .before .before .before .before .before .before .before .before .before .before .position-at .ensures) (answer (now (a .area)) (a .aware) (a .mandatory) (now (a .teps)) (now (a .nonce)) (a .out .now)) _ _ _ _ _ _ _ _ _ _ (c .before .before .before .before .before .no-session .ensures) (c .before .before .before .before .before .before .before .before .before .before .view-of .ensures .1) (c .before .before .before .before .before .before .before .before .answer .ensures) refl (c .enacted .ensures), enacts-kept _ _ _ _ _ _ _ _ _ _ _ _ (c .enacted .ensures))
 
 pub answer-spec : {M : Type 1} → statement M
 answer-spec =
     tie.close
     (tie.spec
     returns
+    position-at-requires
     view-of-requires
     answer-requires
     no-session-requires

@@ -1,10 +1,14 @@
 -- `unit_records::forget` meets its contract.
-use native.Mathlib.Omega.{arith}
-use denote.Ref.{now}
+use Rattle.unit_step.specs.InPlace.{step-taken}
 use Rattle.door.specs.Calls.{forget, outcome}
+use Rattle.pool.specs.PlacedLaws.{doors-same, enacts-kept}
+use Rattle.unit_step.specs.Stepping.{step-past}
+use Rattle.unit_bytes.specs.Content.{unitIn}
+use Rattle.unit.specs.Numbers.{doorsN, rowsN}
 use Rattle.door.specs.Numbered.{lentOf}
-use Rattle.unit.specs.Numbers.{doorsN}
-use Rattle.unit_step.specs.Stepping.{with-zeros, step-past, step-carried}
+use denote.Ref.{now}
+use mathlib.Core.Path.{refl}
+use native.Mathlib.Omega.{arith}
 use borrow.Author.Needs.{needs}
 use Rattle.unit_records.proofs.forget.Statement.{statement}
 use Rattle.unit_records.proofs.forget.Tie as tie
@@ -12,12 +16,18 @@ use Rattle.unit_records.proofs.forget.Reads as reads
 use Rattle.unit_records.proofs.forget.Lts as lts
 use Rattle.door.proofs.no_session.Reads as no-session-reads
 use Rattle.pool.proofs.enacted.Reads as enacted-reads
+use Rattle.pool.proofs.position_at.Reads as position-at-reads
 use Rattle.pool.proofs.view_of.Reads as view-of-reads
 use Rattle.records.proofs.forget.Reads as forget-reads
 
 returns : tie.Need-returns
 unfolding doorsN lentOf
-returns c = let a = c .before .before .args in step-past (a .unit) (a .door) (forget (a .tep) (now (a .identifier))) (omega arith)
+returns c =
+    let a = c .before .before .args in
+    (step-past (unitIn (a .owners .now) (a .rows .now) (a .doors .now)) (a .door) (forget (a .tep) (now (a .identifier))) (omega arith), doors-same (a .door) (a .doors .now))
+
+position-at-requires : tie.Need-position-at-requires
+position-at-requires c κs = search needs
 
 view-of-requires : tie.Need-view-of-requires
 view-of-requires c κs = search needs
@@ -32,18 +42,17 @@ enacted-requires : tie.Need-enacted-requires
 enacted-requires c κs = search needs
 
 returns-2 : tie.Need-returns-2
-unfolding doorsN outcome
+unfolding doorsN rowsN outcome
 returns-2 c =
-    let a = c .before .before .before .before .before .before .before .args in
-    let told = c .before .before .before .forget in
-    step-carried (a .unit) (a .door) (omega arith) (forget (a .tep) (now (a .identifier))) _ _ _ _ _ _ (c .before .before .before .before .view-of .ensures) (told .ensures)
-    (with-zeros (a .unit) (a .door) (c .before .before .before .before .view-of .result .door) (told .result .change) _ _ (c .before .no-session .ensures) (c .enacted .ensures))
+    let a = c .before .before .before .before .before .before .before .before .before .before .before .before .before .args in
+    (step-taken (a .owners .now) (a .rows .now) (a .doors .now) (a .door) (omega arith) _ (c .before .before .before .before .before .before .before .before .before .position-at .ensures) (forget (a .tep) (now (a .identifier))) _ _ _ _ _ _ _ _ _ _ (c .before .before .before .before .no-session .ensures) (c .before .before .before .before .before .before .before .view-of .ensures .1) (c .before .before .before .before .before .before .forget .ensures) refl (c .enacted .ensures), enacts-kept _ _ _ _ _ _ _ _ _ _ _ _ (c .enacted .ensures))
 
 pub forget-spec : {M : Type 1} → statement M
 forget-spec =
     tie.close
     (tie.spec
     returns
+    position-at-requires
     view-of-requires
     forget-requires
     no-session-requires

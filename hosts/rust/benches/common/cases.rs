@@ -71,10 +71,15 @@ fn held_as_b<U: Unit>(unit: &mut U, door: usize, _: &mut [u8]) {
     unit.store(door, 0x23, 1, &identifier(), &SECRET);
 }
 
-fn full<U: Unit>(unit: &mut U, door: usize, _: &mut [u8]) {
-    for first in 1..=4 {
+fn three<U: Unit>(unit: &mut U, door: usize, _: &mut [u8]) {
+    for first in 1..=3 {
         unit.store(door, 0x23, 0, &[first; 18], &SECRET);
     }
+}
+
+fn full<U: Unit>(unit: &mut U, door: usize, out: &mut [u8]) {
+    three(unit, door, out);
+    unit.store(door, 0x23, 0, &[4; 18], &SECRET);
 }
 
 fn offered<U: Unit>(unit: &mut U, door: usize, out: &mut [u8]) {
@@ -150,6 +155,9 @@ pub fn cases<U: Unit>() -> Vec<Case<U>> {
         case!("receive, Crossed to Open", crossed, ack),
         case!("receive, Answered to Open", answered, ack),
         case!("receive, Open", opened, ack),
+        case!("receive, refused 1", offered, |unit, door, _| {
+            unit.receive(door + DOORS, true, true, &SYN_ACK)
+        }),
         case!("receive, refused 4", idle, ack),
         case!("resend", offered, |unit, door, out| unit.resend(door, out)),
         case!("resend, refused 4", idle, |unit, door, out| unit
@@ -164,14 +172,18 @@ pub fn cases<U: Unit>() -> Vec<Case<U>> {
             .close(door)),
         case!("close, refused 1", idle, |unit, door, _| unit
             .close(door + DOORS)),
-        case!("store", idle, store),
+        case!("store, the first", idle, store),
+        case!("store, the fourth", three, store),
         case!("store, refused 3", idle, |unit, door, _| {
             unit.store(door, 0x25, 0, &identifier(), &SECRET)
         }),
         case!("store, refused 6", full, store),
         case!("store, refused 7", held, store),
-        case!("forget", held, |unit, door, _| {
+        case!("forget, the only one", held, |unit, door, _| {
             unit.forget(door, 0x23, &identifier())
+        }),
+        case!("forget, the third of four", full, |unit, door, _| {
+            unit.forget(door, 0x23, &[3; 18])
         }),
         case!("forget, refused 16", full, |unit, door, _| {
             unit.forget(door, 0x23, &identifier())

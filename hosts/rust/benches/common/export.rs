@@ -1,5 +1,4 @@
-//! The exports behind the driver's trait, with the unit behind a pointer as hosts/c/door_link.h has it: what a call gives back is copied to where
-//! the unit is, except after *resend*, *result* and *count*.
+//! The exports behind the driver's trait, over the arrays of a unit as hosts/c/door_link.h hands them on.
 
 use door_link::{Answer, Offer};
 
@@ -40,11 +39,6 @@ impl Export {
     pub fn new() -> Export {
         Export(ffi::new())
     }
-
-    fn take(&mut self, step: &ffi::Step) -> Reply {
-        self.0 = step.unit;
-        told(&step.reply)
-    }
 }
 
 impl Unit for Export {
@@ -67,7 +61,7 @@ impl Unit for Export {
             resume,
             nonce,
         };
-        self.take(&ffi::offer(&self.0, door, &ask, out))
+        told(&ffi::offer(&mut self.0, door, &ask, out))
     }
 
     fn answer(
@@ -87,12 +81,11 @@ impl Unit for Export {
             teps,
             nonce,
         };
-        self.take(&ffi::answer(&self.0, door, &ask, out))
+        told(&ffi::answer(&mut self.0, door, &ask, out))
     }
 
     fn receive(&mut self, door: usize, syn: bool, ack: bool, area: &[u8]) -> Reply {
-        let step = ffi::receive(&self.0, door, syn, ack, area);
-        let reply = self.take(&step);
+        let reply = told(&ffi::receive(&mut self.0, door, syn, ack, area));
         match reply {
             Reply::Plain(cause) => Reply::Now(PhaseNow::Plain(cause)),
             _ => reply,
@@ -100,31 +93,38 @@ impl Unit for Export {
     }
 
     fn resend(&mut self, door: usize, out: &mut [u8]) -> Reply {
-        told(&ffi::resend(&self.0, door, out).reply)
+        told(&ffi::resend(&self.0, door, out))
     }
 
     fn result(&mut self, door: usize, out: &mut [u8]) -> (Reply, [u8; 32]) {
-        let step = ffi::result(&self.0, door, out);
-        (told(&step.reply), step.secret)
+        let given = ffi::result(&self.0, door, out);
+        (told(&given.reply), given.secret)
     }
 
     fn close(&mut self, door: usize) -> Reply {
-        self.take(&ffi::close(&self.0, door))
+        told(&ffi::close(&mut self.0, door))
     }
 
     fn store(&mut self, door: usize, tep: u8, role: u8, identifier: &[u8], secret: &[u8]) -> Reply {
-        self.take(&ffi::store(&self.0, door, tep, role, identifier, secret))
+        told(&ffi::store(
+            &mut self.0,
+            door,
+            tep,
+            role,
+            identifier,
+            secret,
+        ))
     }
 
     fn forget(&mut self, door: usize, tep: u8, identifier: &[u8]) -> Reply {
-        self.take(&ffi::forget(&self.0, door, tep, identifier))
+        told(&ffi::forget(&mut self.0, door, tep, identifier))
     }
 
     fn count(&mut self, door: usize) -> Reply {
-        told(&ffi::count(&self.0, door).reply)
+        told(&ffi::count(&self.0, door))
     }
 
     fn erase(&mut self) -> Reply {
-        self.take(&ffi::erase(&self.0))
+        told(&ffi::erase(&mut self.0))
     }
 }

@@ -1,4 +1,4 @@
-//! What both programs take: the library's exports as they are, and the calls of the unit that are measured.
+//! The library's exports as they are, and the calls of the unit that are measured.
 
 pub mod cases;
 pub mod export;

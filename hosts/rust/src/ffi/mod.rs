@@ -1,8 +1,8 @@
 //! The library's exports as hosts/c/door_link.h and door_link_messages.h have them, each behind a safe function. All `unsafe` of the crate is here.
 //!
 //! What the headers ask of a caller: no null pointer (a slice has none, an empty one included), all bytes of a length readable and those of a
-//! lent buffer writable (a slice's are), no lent buffer that overlaps an input (a `&mut` slice overlaps no other), a unit that the library made
-//! (`Unit` has no other maker than `new` and the calls), and a `bool` that is 0 or 1 (Rust's is).
+//! lent buffer writable (a slice's are), no lent buffer that overlaps an input or the unit (a `&mut` slice overlaps nothing else that is borrowed), and a
+//! `bool` that is 0 or 1 (Rust's is). Any bytes are a unit.
 //!
 //! What the library gives back is declared as numbers throughout, its flags too, so that no value of theirs is undefined; the crate tests them.
 
@@ -12,9 +12,8 @@ pub(crate) mod init;
 pub(crate) mod judge;
 mod unit;
 
+use core::arch::asm;
 use core::mem::{align_of, offset_of, size_of};
-use core::ptr;
-use core::sync::atomic::{compiler_fence, Ordering};
 
 pub(crate) use unit::*;
 
@@ -44,6 +43,19 @@ const _: () = {
     assert!(offset_of!(Reply, option) == 13);
 };
 
+/// Refers to the name that carries the number of the library's interface, as hosts/c/door_link.h does, in an instruction that does nothing: a crate for
+/// another interface does not link.
+#[inline(always)]
+fn abi() {
+    // SAFETY: the instruction changes nothing and reads nothing.
+    unsafe {
+        asm!(
+            "nopl door_link_abi_1@PLT(%rip)",
+            options(att_syntax, nomem, nostack, preserves_flags)
+        )
+    };
+}
+
 extern "C" {
     fn door_link_find_status(area: *const u8, area_length: usize, syn: bool) -> Reply;
 }
@@ -53,11 +65,11 @@ pub(crate) fn find_status(area: &[u8], syn: bool) -> Reply {
     unsafe { door_link_find_status(area.as_ptr(), area.len(), syn) }
 }
 
-/// Writes zeros that the compiler does not leave out.
+/// Writes zeros that the compiler does not leave out, since what follows may read them.
 pub(crate) fn overwrite(bytes: &mut [u8]) {
-    for byte in bytes {
-        // SAFETY: a reference may be written through.
-        unsafe { ptr::write_volatile(byte, 0) };
-    }
-    compiler_fence(Ordering::SeqCst);
+    bytes.fill(0);
+    // SAFETY: there is no instruction in it.
+    unsafe {
+        asm!("/* {} */", in(reg) bytes.as_ptr(), options(nostack, preserves_flags, readonly))
+    };
 }

@@ -1,48 +1,51 @@
-//! The unit's calls.
+//! The unit's calls, over the arrays of a unit.
 
 use core::mem::{align_of, offset_of, size_of};
 
-use super::{overwrite, Reply};
+use super::{abi, Reply};
 
-const UNIT: usize = 8640;
+const DOORS: usize = 24;
+const ROWS: usize = 96;
+const ROW: usize = 52;
+const DOOR: usize = 148;
 const SECRET: usize = 32;
 
-/// All doors and the pool; the bytes are the library's.
-#[derive(Clone, Copy)]
+type Owners = [u8; ROWS];
+type Rows = [[u8; ROW]; ROWS];
+type Doors = [[u8; DOOR]; DOORS];
+
+/// All doors and the pool; the bytes are the library's, and any bytes are a unit.
+#[derive(Clone)]
 #[repr(C)]
 pub(crate) struct Unit {
-    bytes: [u8; UNIT],
-}
-
-/// What a call gives back.
-#[repr(C)]
-pub(crate) struct Step {
-    pub unit: Unit,
-    pub reply: Reply,
+    owners: Owners,
+    rows: Rows,
+    doors: Doors,
 }
 
 /// What *result* gives back.
 #[repr(C)]
-pub(crate) struct ResultStep {
-    pub unit: Unit,
+pub(crate) struct ResultReply {
     pub reply: Reply,
     pub secret: [u8; SECRET],
 }
 
 // The layout that hosts/c/layout.c finds in the library.
 const _: () = {
-    assert!(size_of::<Unit>() == UNIT && align_of::<Unit>() == 1);
-    assert!(size_of::<Step>() == 8656 && align_of::<Step>() == 8);
-    assert!(offset_of!(Step, unit) == 0 && offset_of!(Step, reply) == 8640);
-    assert!(size_of::<ResultStep>() == 8688 && align_of::<ResultStep>() == 8);
-    assert!(offset_of!(ResultStep, unit) == 0 && offset_of!(ResultStep, reply) == 8640);
-    assert!(offset_of!(ResultStep, secret) == 8656);
+    assert!(size_of::<Unit>() == 8640 && align_of::<Unit>() == 1);
+    assert!(offset_of!(Unit, owners) == 0 && offset_of!(Unit, rows) == 96);
+    assert!(offset_of!(Unit, doors) == 5088);
+    assert!(size_of::<ResultReply>() == 48 && align_of::<ResultReply>() == 8);
+    assert!(offset_of!(ResultReply, reply) == 0 && offset_of!(ResultReply, secret) == 16);
 };
 
+// A reference to an array is a pointer that is not null, to bytes that are all there; no two of one call overlap where one of them is `&mut`.
 extern "C" {
-    fn door_link_new() -> Unit;
+    fn door_link_erase(owners: &mut Owners, rows: &mut Rows, doors: &mut Doors) -> Reply;
     fn door_link_offer(
-        unit: Unit,
+        owners: &mut Owners,
+        rows: &mut Rows,
+        doors: &mut Doors,
         door: usize,
         b: u8,
         aware: bool,
@@ -54,9 +57,11 @@ extern "C" {
         nonce_length: usize,
         out: *mut u8,
         out_length: usize,
-    ) -> Step;
+    ) -> Reply;
     fn door_link_answer(
-        unit: Unit,
+        owners: &mut Owners,
+        rows: &mut Rows,
+        doors: &mut Doors,
         door: usize,
         area: *const u8,
         area_length: usize,
@@ -68,20 +73,38 @@ extern "C" {
         nonce_length: usize,
         out: *mut u8,
         out_length: usize,
-    ) -> Step;
+    ) -> Reply;
     fn door_link_receive(
-        unit: Unit,
+        owners: &Owners,
+        rows: &Rows,
+        doors: &mut Doors,
         door: usize,
         syn: bool,
         ack: bool,
         area: *const u8,
         area_length: usize,
-    ) -> Step;
-    fn door_link_resend(unit: Unit, door: usize, out: *mut u8, out_length: usize) -> Step;
-    fn door_link_result(unit: Unit, door: usize, out: *mut u8, out_length: usize) -> ResultStep;
-    fn door_link_close(unit: Unit, door: usize) -> Step;
+    ) -> Reply;
+    fn door_link_resend(
+        owners: &Owners,
+        rows: &Rows,
+        doors: &Doors,
+        door: usize,
+        out: *mut u8,
+        out_length: usize,
+    ) -> Reply;
+    fn door_link_result(
+        owners: &Owners,
+        rows: &Rows,
+        doors: &Doors,
+        door: usize,
+        out: *mut u8,
+        out_length: usize,
+    ) -> ResultReply;
+    fn door_link_close(owners: &Owners, rows: &Rows, doors: &mut Doors, door: usize) -> Reply;
     fn door_link_store(
-        unit: Unit,
+        owners: &mut Owners,
+        rows: &mut Rows,
+        doors: &mut Doors,
         door: usize,
         tep: u8,
         role: u8,
@@ -89,29 +112,39 @@ extern "C" {
         identifier_length: usize,
         secret: *const u8,
         secret_length: usize,
-    ) -> Step;
+    ) -> Reply;
     fn door_link_forget(
-        unit: Unit,
+        owners: &mut Owners,
+        rows: &mut Rows,
+        doors: &mut Doors,
         door: usize,
         tep: u8,
         identifier: *const u8,
         identifier_length: usize,
-    ) -> Step;
-    fn door_link_count(unit: Unit, door: usize) -> Step;
-    fn door_link_erase(unit: Unit) -> Step;
+    ) -> Reply;
+    fn door_link_count(owners: &Owners, rows: &Rows, doors: &Doors, door: usize) -> Reply;
 }
 
+/// The empty unit. There is no other maker of a unit, so a program that has one was linked with a library of this interface.
 pub(crate) fn new() -> Unit {
-    // SAFETY: the call takes nothing.
-    unsafe { door_link_new() }
+    abi();
+    let mut unit = Unit {
+        owners: [0; ROWS],
+        rows: [[0; ROW]; ROWS],
+        doors: [[0; DOOR]; DOORS],
+    };
+    erase(&mut unit);
+    unit
 }
 
-pub(crate) fn offer(unit: &Unit, door: usize, ask: &crate::Offer<'_>, out: &mut [u8]) -> Step {
+pub(crate) fn offer(unit: &mut Unit, door: usize, ask: &crate::Offer<'_>, out: &mut [u8]) -> Reply {
     let (teps, nonce) = (ask.teps, ask.nonce);
-    // SAFETY: pointers and lengths are those of slices, `out` is lent alone, and the unit is the library's.
+    // SAFETY: pointers and lengths are those of slices, and `out` is lent alone.
     unsafe {
         door_link_offer(
-            *unit,
+            &mut unit.owners,
+            &mut unit.rows,
+            &mut unit.doors,
             door,
             ask.b,
             ask.aware,
@@ -127,12 +160,19 @@ pub(crate) fn offer(unit: &Unit, door: usize, ask: &crate::Offer<'_>, out: &mut 
     }
 }
 
-pub(crate) fn answer(unit: &Unit, door: usize, ask: &crate::Answer<'_>, out: &mut [u8]) -> Step {
+pub(crate) fn answer(
+    unit: &mut Unit,
+    door: usize,
+    ask: &crate::Answer<'_>,
+    out: &mut [u8],
+) -> Reply {
     let (area, teps, nonce) = (ask.area, ask.teps, ask.nonce);
-    // SAFETY: pointers and lengths are those of slices, `out` is lent alone, and the unit is the library's.
+    // SAFETY: pointers and lengths are those of slices, and `out` is lent alone.
     unsafe {
         door_link_answer(
-            *unit,
+            &mut unit.owners,
+            &mut unit.rows,
+            &mut unit.doors,
             door,
             area.as_ptr(),
             area.len(),
@@ -148,38 +188,69 @@ pub(crate) fn answer(unit: &Unit, door: usize, ask: &crate::Answer<'_>, out: &mu
     }
 }
 
-pub(crate) fn receive(unit: &Unit, door: usize, syn: bool, ack: bool, area: &[u8]) -> Step {
-    // SAFETY: pointer and length are those of a slice, and the unit is the library's.
-    unsafe { door_link_receive(*unit, door, syn, ack, area.as_ptr(), area.len()) }
+pub(crate) fn receive(unit: &mut Unit, door: usize, syn: bool, ack: bool, area: &[u8]) -> Reply {
+    // SAFETY: pointer and length are those of a slice.
+    unsafe {
+        door_link_receive(
+            &unit.owners,
+            &unit.rows,
+            &mut unit.doors,
+            door,
+            syn,
+            ack,
+            area.as_ptr(),
+            area.len(),
+        )
+    }
 }
 
-pub(crate) fn resend(unit: &Unit, door: usize, out: &mut [u8]) -> Step {
-    // SAFETY: pointer and length are those of a slice that is lent alone, and the unit is the library's.
-    unsafe { door_link_resend(*unit, door, out.as_mut_ptr(), out.len()) }
+pub(crate) fn resend(unit: &Unit, door: usize, out: &mut [u8]) -> Reply {
+    // SAFETY: pointer and length are those of a slice that is lent alone.
+    unsafe {
+        door_link_resend(
+            &unit.owners,
+            &unit.rows,
+            &unit.doors,
+            door,
+            out.as_mut_ptr(),
+            out.len(),
+        )
+    }
 }
 
-pub(crate) fn result(unit: &Unit, door: usize, out: &mut [u8]) -> ResultStep {
-    // SAFETY: pointer and length are those of a slice that is lent alone, and the unit is the library's.
-    unsafe { door_link_result(*unit, door, out.as_mut_ptr(), out.len()) }
+pub(crate) fn result(unit: &Unit, door: usize, out: &mut [u8]) -> ResultReply {
+    // SAFETY: pointer and length are those of a slice that is lent alone.
+    unsafe {
+        door_link_result(
+            &unit.owners,
+            &unit.rows,
+            &unit.doors,
+            door,
+            out.as_mut_ptr(),
+            out.len(),
+        )
+    }
 }
 
-pub(crate) fn close(unit: &Unit, door: usize) -> Step {
-    // SAFETY: the unit is the library's.
-    unsafe { door_link_close(*unit, door) }
+pub(crate) fn close(unit: &mut Unit, door: usize) -> Reply {
+    // SAFETY: the call takes references and a number.
+    unsafe { door_link_close(&unit.owners, &unit.rows, &mut unit.doors, door) }
 }
 
 pub(crate) fn store(
-    unit: &Unit,
+    unit: &mut Unit,
     door: usize,
     tep: u8,
     role: u8,
     identifier: &[u8],
     secret: &[u8],
-) -> Step {
-    // SAFETY: pointers and lengths are those of slices, and the unit is the library's.
+) -> Reply {
+    // SAFETY: pointers and lengths are those of slices.
     unsafe {
         door_link_store(
-            *unit,
+            &mut unit.owners,
+            &mut unit.rows,
+            &mut unit.doors,
             door,
             tep,
             role,
@@ -191,38 +262,53 @@ pub(crate) fn store(
     }
 }
 
-pub(crate) fn forget(unit: &Unit, door: usize, tep: u8, identifier: &[u8]) -> Step {
-    // SAFETY: pointer and length are those of a slice, and the unit is the library's.
-    unsafe { door_link_forget(*unit, door, tep, identifier.as_ptr(), identifier.len()) }
-}
-
-pub(crate) fn count(unit: &Unit, door: usize) -> Step {
-    // SAFETY: the unit is the library's.
-    unsafe { door_link_count(*unit, door) }
-}
-
-pub(crate) fn erase(unit: &Unit) -> Step {
-    // SAFETY: the unit is the library's.
-    unsafe { door_link_erase(*unit) }
-}
-
-impl Unit {
-    /// Overwrites the unit with zeros, which is the empty unit.
-    pub(crate) fn overwrite(&mut self) {
-        overwrite(&mut self.bytes);
+pub(crate) fn forget(unit: &mut Unit, door: usize, tep: u8, identifier: &[u8]) -> Reply {
+    // SAFETY: pointer and length are those of a slice.
+    unsafe {
+        door_link_forget(
+            &mut unit.owners,
+            &mut unit.rows,
+            &mut unit.doors,
+            door,
+            tep,
+            identifier.as_ptr(),
+            identifier.len(),
+        )
     }
+}
+
+pub(crate) fn count(unit: &Unit, door: usize) -> Reply {
+    // SAFETY: the call takes references and a number.
+    unsafe { door_link_count(&unit.owners, &unit.rows, &unit.doors, door) }
+}
+
+/// Makes the empty unit of whatever bytes it has, all of them 0. The compiler does not look into the library, so it does not leave the call out.
+pub(crate) fn erase(unit: &mut Unit) -> Reply {
+    // SAFETY: the call takes references.
+    unsafe { door_link_erase(&mut unit.owners, &mut unit.rows, &mut unit.doors) }
 }
 
 #[cfg(test)]
 mod tests {
     use super::*;
 
-    /// *resend*, *result*, *count* and refused calls give back the unit that they were given.
+    impl Unit {
+        fn bytes(&self) -> std::vec::Vec<u8> {
+            [
+                &self.owners[..],
+                self.rows.as_flattened(),
+                self.doors.as_flattened(),
+            ]
+            .concat()
+        }
+    }
+
+    /// *resend*, *result*, *count* and refused calls leave every byte of the unit.
     #[test]
     fn calls_that_change_nothing() {
         let mut unit = new();
-        assert_eq!(unit.bytes, [0; UNIT]);
-        unit = store(&unit, 5, 0x23, 0, &[7; 18], &[9; 32]).unit;
+        assert_eq!(unit.bytes(), [0; 8640]);
+        assert_eq!(store(&mut unit, 5, 0x23, 0, &[7; 18], &[9; 32]).kind, 5);
         let ask = crate::Offer {
             b: 0,
             aware: false,
@@ -232,23 +318,42 @@ mod tests {
             nonce: &[],
         };
         let out = &mut [0; 40][..];
-        unit = offer(&unit, 5, &ask, out).unit;
+        assert_eq!(offer(&mut unit, 5, &ask, out).kind, 1);
         let area = [&[0x45, 13, 1, 0xa3][..], &[7; 9]].concat();
         for open in [false, true] {
             if open {
-                unit = receive(&unit, 5, true, true, &area).unit;
+                assert_eq!(receive(&mut unit, 5, true, true, &area).number, 4);
             }
-            assert_eq!(resend(&unit, 5, out).unit.bytes, unit.bytes);
-            let step = result(&unit, 5, out);
-            assert_eq!(step.unit.bytes, unit.bytes);
-            assert_eq!(step.secret, if open { [9; 32] } else { [0; 32] });
-            assert_eq!(count(&unit, 5).unit.bytes, unit.bytes);
-            assert_eq!(close(&unit, 24).unit.bytes, unit.bytes);
-            assert_eq!(offer(&unit, 5, &ask, out).unit.bytes, unit.bytes);
+            let before = unit.bytes();
+            resend(&unit, 5, out);
+            let told = result(&unit, 5, out);
+            assert_eq!(told.secret, if open { [9; 32] } else { [0; 32] });
+            assert_eq!(count(&unit, 5).kind, 6);
+            assert_eq!(close(&mut unit, 24).kind, 0);
+            assert_eq!(offer(&mut unit, 5, &ask, out).kind, 0);
+            assert_eq!(unit.bytes(), before);
         }
-        let empty = erase(&unit).unit;
-        assert_eq!(empty.bytes, new().bytes);
-        unit.overwrite();
-        assert_eq!(unit.bytes, empty.bytes);
+    }
+
+    /// Any bytes are a unit: no byte of another door moves, and *erase* leaves none.
+    #[test]
+    fn any_bytes() {
+        for byte in [1, 4, 0x45, 0xff] {
+            let mut unit = Unit {
+                owners: [byte; ROWS],
+                rows: [[byte; ROW]; ROWS],
+                doors: [[byte; DOOR]; DOORS],
+            };
+            let before = unit.clone();
+            receive(&mut unit, 5, true, true, &[0x45, 4, 1, 0x23]);
+            close(&mut unit, 7);
+            result(&unit, 8, &mut [0; 80]);
+            for door in (0..DOORS).filter(|door| ![5, 7].contains(door)) {
+                assert_eq!(unit.doors[door], before.doors[door]);
+            }
+            assert!(unit.rows == before.rows && unit.owners == before.owners);
+            assert_eq!(erase(&mut unit).kind, 5);
+            assert_eq!(unit.bytes(), [0; 8640]);
+        }
     }
 }

@@ -6,13 +6,13 @@ use Rattle.bench.proofs.run.unit_table.Statement.{statement}
 use Rattle.bench.proofs.run.unit_table.Tie as tie
 
 abbrev Inv-loop : tie.InvT-loop
-Inv-loop table unit₀ at₀ unit at = at ≤ length table
+Inv-loop table owners₀ rows₀ doors₀ at₀ owners rows doors at = at ≤ length table
 
 abbrev μ-loop : tie.MeasureT-loop
-μ-loop table unit₀ at₀ unit at = length table - at
+μ-loop table owners₀ rows₀ doors₀ at₀ owners rows doors at = length table - at
 
-new-requires : tie.Need-new-requires Inv-loop μ-loop
-new-requires c κs = search needs
+erase-requires : tie.Need-erase-requires Inv-loop μ-loop
+erase-requires c κs = search needs
 
 loop-holds : tie.Need-loop-holds Inv-loop μ-loop
 loop-holds c = search needs
@@ -47,7 +47,7 @@ unit-table-spec =
     (tie.spec
     Inv-loop
     μ-loop
-    new-requires
+    erase-requires
     loop-holds
     until-requires
     part-requires

@@ -1,0 +1,2 @@
+-- Laws of the finder's word in plain numbers.
+pub mod Numbering

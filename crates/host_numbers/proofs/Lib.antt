@@ -1,0 +1,2 @@
+-- Laws of the unit's replies in plain numbers.
+pub mod Numbering

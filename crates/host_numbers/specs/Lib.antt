@@ -1,0 +1,3 @@
+-- The unit's replies in plain numbers, and that these lose nothing.
+pub mod Replies
+pub mod ReadBack
