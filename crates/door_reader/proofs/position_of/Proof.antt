@@ -1,16 +1,16 @@
--- `unit_bytes::position_of` meets its contract.
+-- `door_reader::position_of` meets its contract.
 use mathlib.Core.Path.{_≡_, refl, _∙_}
 use lib.ListN.{length, replicate}
 use native.Mathlib.Omega.{arith}
 use Rattle.wire.specs.Bytes.{part}
 use Rattle.unit_bytes.specs.Layout.{doorSize, ownAt, peerAt, identifierAt, secretAt}
 use Rattle.unit_bytes.specs.Laws.{copied-part, read-position}
 use borrow.Author.Needs.{needs}
-use Rattle.unit_bytes.proofs.position_of.Statement.{statement}
-use Rattle.unit_bytes.proofs.position_of.Tie as tie
-use Rattle.unit_bytes.proofs.position_of.Reads as reads
-use Rattle.unit_bytes.proofs.position_of.Lts as lts
-use Rattle.unit_bytes.proofs.is_set.Reads as is-set-reads
+use Rattle.door_reader.proofs.position_of.Statement.{statement}
+use Rattle.door_reader.proofs.position_of.Tie as tie
+use Rattle.door_reader.proofs.position_of.Reads as reads
+use Rattle.door_reader.proofs.position_of.Lts as lts
+use Rattle.door_reader.proofs.is_set.Reads as is-set-reads
 use Rattle.wire.proofs.copy.Reads as copy-reads
 
 slice-aggregate-copy : tie.Need-slice-aggregate-copy

@@ -1,13 +1,13 @@
--- `unit_bytes::place_with` meets its contract.
+-- `door_writer::place_with` meets its contract.
 use mathlib.Core.Path.{_≡_, refl}
 use lib.ListN.{length, replicate}
 use Rattle.unit_bytes.specs.Layout.{doorSize, numbersSize}
 use Rattle.unit_bytes.specs.Laws.{place-pieces}
 use borrow.Author.Needs.{needs}
-use Rattle.unit_bytes.proofs.place_with.Statement.{statement}
-use Rattle.unit_bytes.proofs.place_with.Tie as tie
-use Rattle.unit_bytes.proofs.place_with.Reads as reads
-use Rattle.unit_bytes.proofs.place_with.Lts as lts
+use Rattle.door_writer.proofs.place_with.Statement.{statement}
+use Rattle.door_writer.proofs.place_with.Tie as tie
+use Rattle.door_writer.proofs.place_with.Reads as reads
+use Rattle.door_writer.proofs.place_with.Lts as lts
 use Rattle.wire.proofs.copy.Reads as copy-reads
 
 slice-aggregate-copy : tie.Need-slice-aggregate-copy

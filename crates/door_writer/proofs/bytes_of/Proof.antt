@@ -1,16 +1,16 @@
--- `unit_bytes::bytes_of` meets its contract.
+-- `door_writer::bytes_of` meets its contract.
 use mathlib.Core.Path.{_≡_, refl, _∙_, ap}
 use lib.ListN.{length}
 use Rattle.unit_bytes.specs.Layout.{doorSize}
 use Rattle.unit_bytes.specs.Content.{positionIn, bytesOf}
 use Rattle.unit_bytes.specs.Laws.{written-place, position-read}
 use borrow.Author.Needs.{needs}
-use Rattle.unit_bytes.proofs.bytes_of.Statement.{statement}
-use Rattle.unit_bytes.proofs.bytes_of.Tie as tie
-use Rattle.unit_bytes.proofs.bytes_of.Reads as reads
-use Rattle.unit_bytes.proofs.bytes_of.Lts as lts
-use Rattle.unit_bytes.proofs.flag_over.Reads as flag-over-reads
-use Rattle.unit_bytes.proofs.place_with.Reads as place-with-reads
+use Rattle.door_writer.proofs.bytes_of.Statement.{statement}
+use Rattle.door_writer.proofs.bytes_of.Tie as tie
+use Rattle.door_writer.proofs.bytes_of.Reads as reads
+use Rattle.door_writer.proofs.bytes_of.Lts as lts
+use Rattle.door_writer.proofs.flag_over.Reads as flag-over-reads
+use Rattle.door_writer.proofs.place_with.Reads as place-with-reads
 
 array-read-flag-over : tie.Need-array-read-flag-over
 array-read-flag-over c = search needs
