@@ -4,12 +4,12 @@ use mathlib.Core.Path.{_≡_, refl}
 use mathlib.Core.List.{List}
 use Rattle.frame_layout.specs.Answers.{nonceReply}
 use Rattle.frame_layout.specs.declared.NonceSays.{NonceSays}
-use Rattle.host_frame.specs.Replies.{frameNumbers, nonceWith, nonceNumbers}
-use Rattle.host_frame.specs.declared.NonceNumbers.{NonceNumbers}
+use Rattle.host_frame_numbers.specs.Replies.{frameNumbers, nonceWith, nonceNumbers}
+use Rattle.host_frame_numbers.specs.declared.NonceNumbers.{NonceNumbers}
 use Rattle.host_reply.specs.Telling.{told}
 use borrow.Author.Needs.{needs}
-use Rattle.host_frame.proofs.nonce_numbers.Statement.{statement}
-use Rattle.host_frame.proofs.nonce_numbers.Tie as tie
+use Rattle.host_frame_numbers.proofs.nonce_numbers.Statement.{statement}
+use Rattle.host_frame_numbers.proofs.nonce_numbers.Tie as tie
 
 abbrev view : (nonce : List ℕ) → NonceSays → NonceNumbers
 view s x = nonceWith (frameNumbers (nonceReply x)) s

@@ -4,12 +4,12 @@ use mathlib.Core.Path.{_≡_, ap}
 use mathlib.Core.List.{List}
 use Rattle.frame_layout.specs.Answers.{headerReply}
 use Rattle.frame_layout.specs.declared.HeaderSays.{HeaderSays}
-use Rattle.host_frame.specs.Replies.{frameNumbers, headerWith, headerNumbers}
-use Rattle.host_frame.specs.declared.HeaderNumbers.{HeaderNumbers}
+use Rattle.host_frame_numbers.specs.Replies.{frameNumbers, headerWith, headerNumbers}
+use Rattle.host_frame_numbers.specs.declared.HeaderNumbers.{HeaderNumbers}
 use Rattle.host_reply.specs.Telling.{told}
 use borrow.Author.Needs.{needs}
-use Rattle.host_frame.proofs.header_numbers.Statement.{statement}
-use Rattle.host_frame.proofs.header_numbers.Tie as tie
+use Rattle.host_frame_numbers.proofs.header_numbers.Statement.{statement}
+use Rattle.host_frame_numbers.proofs.header_numbers.Tie as tie
 
 abbrev view : (associated : List ℕ) → HeaderSays → HeaderNumbers
 view s x = headerWith (headerReply x) s

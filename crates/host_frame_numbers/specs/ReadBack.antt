@@ -20,11 +20,11 @@ use Rattle.frame_layout.specs.declared.PlaintextWritten.{PlaintextWritten}
 use Rattle.frame_layout.specs.declared.PlaintextWritten.the-variants as p
 use Rattle.frame_layout.specs.declared.PlaintextRead.{PlaintextRead}
 use Rattle.frame_layout.specs.declared.PlaintextRead.the-variants as r
-use Rattle.host_frame.specs.Replies.{frameNumbers, headerWith, headerNumbers, nonceWith, nonceNumbers, plaintextWith, plaintextNumbers}
+use Rattle.host_frame_numbers.specs.Replies.{frameNumbers, headerWith, headerNumbers, nonceWith, nonceNumbers, plaintextWith, plaintextNumbers}
 use Rattle.host_reply.specs.declared.ReplyNumbers.{ReplyNumbers}
-use Rattle.host_frame.specs.declared.HeaderNumbers.{HeaderNumbers}
-use Rattle.host_frame.specs.declared.NonceNumbers.{NonceNumbers}
-use Rattle.host_frame.specs.declared.PlaintextNumbers.{PlaintextNumbers}
+use Rattle.host_frame_numbers.specs.declared.HeaderNumbers.{HeaderNumbers}
+use Rattle.host_frame_numbers.specs.declared.NonceNumbers.{NonceNumbers}
+use Rattle.host_frame_numbers.specs.declared.PlaintextNumbers.{PlaintextNumbers}
 
 -- a reply that has kind and number alone
 abbrev replyBack : ReplyNumbers → Reply

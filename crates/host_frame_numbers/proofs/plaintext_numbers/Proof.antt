@@ -3,12 +3,12 @@ use Prim.Native.Nat.{ℕ}
 use mathlib.Core.Path.{_≡_, refl, ap₂}
 use Rattle.frame_layout.specs.Answers.{plaintextReply}
 use Rattle.frame_layout.specs.declared.PlaintextRead.{PlaintextRead}
-use Rattle.host_frame.specs.Replies.{frameNumbers, plaintextWith, plaintextNumbers}
-use Rattle.host_frame.specs.declared.PlaintextNumbers.{PlaintextNumbers}
+use Rattle.host_frame_numbers.specs.Replies.{frameNumbers, plaintextWith, plaintextNumbers}
+use Rattle.host_frame_numbers.specs.declared.PlaintextNumbers.{PlaintextNumbers}
 use Rattle.host_reply.specs.Telling.{told}
 use borrow.Author.Needs.{needs}
-use Rattle.host_frame.proofs.plaintext_numbers.Statement.{statement}
-use Rattle.host_frame.proofs.plaintext_numbers.Tie as tie
+use Rattle.host_frame_numbers.proofs.plaintext_numbers.Statement.{statement}
+use Rattle.host_frame_numbers.proofs.plaintext_numbers.Tie as tie
 
 abbrev view : PlaintextRead → PlaintextNumbers
 view x = plaintextWith (plaintextReply x)

@@ -5,10 +5,10 @@ use mathlib.Core.List.{List}
 use Rattle.frame_layout.specs.Outcome.{Reply, refused, begins, header, made, written, plaintext, Outcome}
 use Rattle.host_reply.specs.Numbers.{ofKind, flagNumber}
 use Rattle.host_reply.specs.declared.ReplyNumbers.{ReplyNumbers}
-use Rattle.host_frame.specs.declared.HeaderNumbers.{HeaderNumbers}
-use Rattle.host_frame.specs.declared.FrameId.{FrameId}
-use Rattle.host_frame.specs.declared.NonceNumbers.{NonceNumbers}
-use Rattle.host_frame.specs.declared.PlaintextNumbers.{PlaintextNumbers}
+use Rattle.host_frame_numbers.specs.declared.HeaderNumbers.{HeaderNumbers}
+use Rattle.host_frame_numbers.specs.declared.FrameId.{FrameId}
+use Rattle.host_frame_numbers.specs.declared.NonceNumbers.{NonceNumbers}
+use Rattle.host_frame_numbers.specs.declared.PlaintextNumbers.{PlaintextNumbers}
 
 -- kind and number of a reply: a refusal's number, the offset after the frame, bytes written, or where the data begin
 unfoldable pub frameNumbers : Reply → ReplyNumbers

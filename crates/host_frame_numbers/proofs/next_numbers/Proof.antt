@@ -1,12 +1,12 @@
 -- `frame_calls::next_numbers` meets its contract.
 use Rattle.frame_layout.specs.Answers.{nextReply}
 use Rattle.frame_layout.specs.declared.NextOffset.{NextOffset}
-use Rattle.host_frame.specs.Replies.{frameNumbers}
+use Rattle.host_frame_numbers.specs.Replies.{frameNumbers}
 use Rattle.host_reply.specs.declared.ReplyNumbers.{ReplyNumbers}
 use Rattle.host_reply.specs.Telling.{told}
 use borrow.Author.Needs.{needs}
-use Rattle.host_frame.proofs.next_numbers.Statement.{statement}
-use Rattle.host_frame.proofs.next_numbers.Tie as tie
+use Rattle.host_frame_numbers.proofs.next_numbers.Statement.{statement}
+use Rattle.host_frame_numbers.proofs.next_numbers.Tie as tie
 
 abbrev view : NextOffset → ReplyNumbers
 view x = frameNumbers (nextReply x)

@@ -1,12 +1,12 @@
 -- `frame_calls::written_numbers` meets its contract.
 use Rattle.frame_layout.specs.Answers.{writtenReply}
 use Rattle.frame_layout.specs.declared.HeaderWritten.{HeaderWritten}
-use Rattle.host_frame.specs.Replies.{frameNumbers}
+use Rattle.host_frame_numbers.specs.Replies.{frameNumbers}
 use Rattle.host_reply.specs.declared.ReplyNumbers.{ReplyNumbers}
 use Rattle.host_reply.specs.Telling.{told}
 use borrow.Author.Needs.{needs}
-use Rattle.host_frame.proofs.written_numbers.Statement.{statement}
-use Rattle.host_frame.proofs.written_numbers.Tie as tie
+use Rattle.host_frame_numbers.proofs.written_numbers.Statement.{statement}
+use Rattle.host_frame_numbers.proofs.written_numbers.Tie as tie
 
 abbrev view : HeaderWritten → ReplyNumbers
 view x = frameNumbers (writtenReply x)
