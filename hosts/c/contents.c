@@ -1,6 +1,7 @@
 /* Random contents of the unit with random calls, through the compiled library. For any bytes: no byte of another door moves, no row but the one that the call takes
  * or frees; a refused call, and resend, result and count, change no byte; a lent buffer is written as far as the reply says. For units that calls made, the same,
- * and after each call no record of another door stands on the dead stack. Last, null pointers with lengths other than 0. Silent where all is as it should be. */
+ * and after each call no record of another door stands on the dead stack, nor one of its own once the stack was wiped. Last, null pointers with lengths other than 0.
+ * Silent where all is as it should be. */
 #include "random_calls.h"
 
 #if defined(__SANITIZE_ADDRESS__)
@@ -127,12 +128,29 @@ static bool another_door_left(size_t door) {
 }
 #endif
 
-static void run_call(int call) {
+#ifndef SANITIZED
+/* A call of the unit with the wipe behind it, for the painted stack. */
+static void (*wiped)(void);
+static void call_and_wipe(void) {
+    wiped();
+    door_link_wipe_stack();
+}
+#endif
+
+/* Every second call is wiped: then no record at all is left, and not one byte above what the painted stack's own frame takes. */
+static void run_call(int call, bool wipe) {
 #ifdef SANITIZED
     unit_calls[call].make();
+    if (wipe) door_link_wipe_stack();
 #else
-    run_painted(unit_calls[call].make, 0);
+    wiped = unit_calls[call].make;
+    const unsigned before = own_marks;
+    run_painted(wipe ? call_and_wipe : wiped, 0);
     EXPECT(!another_door_left(asked.door));
+    if (wipe) {
+        EXPECT(own_marks == before);
+        EXPECT(zeros(painted_stack, sizeof painted_stack - 64));
+    }
 #endif
 }
 
@@ -153,7 +171,7 @@ static void made_by_calls(void) {
         const struct asked given = asked;
         before = unit;
         memcpy(lent, out, sizeof out);
-        run_call(call);
+        run_call(call, i % 2 == 1);
         compare(call, &before, &given, lent);
         for (size_t k = 0; k < DOOR_LINK_ROWS; k++)
             if (before.owners[k] != unit.owners[k]) EXPECT(before.owners[k] + unit.owners[k] == (int)asked.door + 1);

@@ -1,7 +1,7 @@
 /* After the handshake, for hosts in C: Init messages, frames and generations of tcpcrypt (RFC 8548), and the judge of two option areas.
  *
- * None of these calls knows a unit or a door: each answers from its arguments alone. What door_link.h says of bytes, refusals and threads holds here too. A pointer
- * is never null, also where its length is 0. Lists of ciphers go in as a pointer and a count.
+ * None of these calls knows a unit or a door: each answers from its arguments alone. What door_link.h says of bytes, null pointers, refusals and threads holds here
+ * too. Lists of ciphers go in as a pointer and a count.
  *
  * THE HOST'S PART is all of the cryptography: public keys, key agreement, the keys of each generation, fixed nonces, ciphering and tags, and random numbers.
  * These calls lay out and read the bytes around it.
@@ -52,6 +52,15 @@ enum {
     DOOR_LINK_MOST_PLAINTEXT = 65519
 };
 
+/* A call that takes a pointer is an inline function here. The library's own, of the same name, takes no null pointer: it is door_link_raw_.. in C, and the inline
+ * function has another name for the linker. */
+
+/* A null list of ciphers is an empty one. */
+static inline const uint16_t *door_link_ciphers(const uint16_t *ciphers) {
+    static const uint16_t none[1] = {0};
+    return ciphers ? ciphers : none;
+}
+
 /* ---- Init messages: TEPs 0x23 and 0x24. Those of 0x21 and 0x22 are the host's. ---- */
 
 /* What reading an Init message gives. Beside a refusal all but kind and number are zeros. */
@@ -66,27 +75,57 @@ struct door_link_init_reply {
 
 /* Writes Init1, with which host A begins a fresh key exchange.
  *   tep      0x23 or 0x24, without v
- *   ciphers  0 to 255 of them, the best first
- *   nonce    32 bytes, fresh
- *   key      this end's public key, 32 or 56 bytes by the TEP
- *   out      lent; the message has 41 bytes, two for each cipher, and the key
+ *   ciphers  0 to 255 of them, the best first; null is none
+ *   nonce    32 bytes, fresh; null is refused with 3
+ *   key      this end's public key, 32 or 56 bytes by the TEP; null is refused with 3
+ *   out      lent; the message has 41 bytes, two for each cipher, and the key; null is refused with 5
  * Replies: WRITTEN. Refused: 3 for another TEP, another length of nonce or key, or more than 255 ciphers; 5. */
-struct door_link_reply door_link_init1_write(uint8_t tep, const uint16_t *ciphers, size_t ciphers_count, const uint8_t *nonce, size_t nonce_length,
-                                             const uint8_t *key, size_t key_length, uint8_t *out, size_t out_length);
+struct door_link_reply door_link_raw_init1_write(uint8_t tep, const uint16_t *ciphers, size_t ciphers_count, const uint8_t *nonce, size_t nonce_length,
+                                                 const uint8_t *key, size_t key_length, uint8_t *out, size_t out_length) __asm__("door_link_init1_write");
+static inline __typeof__(door_link_raw_init1_write) door_link_init1_write __asm__("door_link_or_null_init1_write");
+static inline struct door_link_reply door_link_init1_write(uint8_t tep, const uint16_t *ciphers, size_t ciphers_count, const uint8_t *nonce, size_t nonce_length,
+                                                           const uint8_t *key, size_t key_length, uint8_t *out, size_t out_length) {
+    uint8_t none[1];
+    door_link_abi();
+    return door_link_raw_init1_write(tep, door_link_ciphers(ciphers), ciphers ? ciphers_count : 0, door_link_bytes(nonce), door_link_length(nonce, nonce_length),
+                                     door_link_bytes(key), door_link_length(key, key_length), out ? out : none, door_link_length(out, out_length));
+}
 
 /* Writes Init2, host B's answer: the cipher that door_link_init1_read gave, B's nonce and its public key. The message has 42 bytes and the key.
+ * A null nonce or key is refused with 3, a null `out` with 5.
  * Replies: WRITTEN. Refused: 3 for another TEP or another length of nonce or key; 5. */
-struct door_link_reply door_link_init2_write(uint8_t tep, uint16_t cipher, const uint8_t *nonce, size_t nonce_length, const uint8_t *key, size_t key_length,
-                                             uint8_t *out, size_t out_length);
+struct door_link_reply door_link_raw_init2_write(uint8_t tep, uint16_t cipher, const uint8_t *nonce, size_t nonce_length, const uint8_t *key, size_t key_length,
+                                                 uint8_t *out, size_t out_length) __asm__("door_link_init2_write");
+static inline __typeof__(door_link_raw_init2_write) door_link_init2_write __asm__("door_link_or_null_init2_write");
+static inline struct door_link_reply door_link_init2_write(uint8_t tep, uint16_t cipher, const uint8_t *nonce, size_t nonce_length, const uint8_t *key,
+                                                           size_t key_length, uint8_t *out, size_t out_length) {
+    uint8_t none[1];
+    door_link_abi();
+    return door_link_raw_init2_write(tep, cipher, door_link_bytes(nonce), door_link_length(nonce, nonce_length), door_link_bytes(key),
+                                     door_link_length(key, key_length), out ? out : none, door_link_length(out, out_length));
+}
 
 /* Reads Init1 at host B from the bytes that have come so far, and takes the first of its ciphers that is enabled here. Bytes behind the message are not read; they
- * belong to the first frame, which begins at `number`.
+ * belong to the first frame, which begins at `number`. Null is no bytes: refused with 9.
  * Replies: INIT. Refused: 3 for another TEP; 8; 9; 10. */
-struct door_link_init_reply door_link_init1_read(uint8_t tep, bool aes128, bool aes256, bool chacha20, const uint8_t *bytes, size_t bytes_length);
+struct door_link_init_reply door_link_raw_init1_read(uint8_t tep, bool aes128, bool aes256, bool chacha20, const uint8_t *bytes,
+                                                     size_t bytes_length) __asm__("door_link_init1_read");
+static inline __typeof__(door_link_raw_init1_read) door_link_init1_read __asm__("door_link_or_null_init1_read");
+static inline struct door_link_init_reply door_link_init1_read(uint8_t tep, bool aes128, bool aes256, bool chacha20, const uint8_t *bytes, size_t bytes_length) {
+    door_link_abi();
+    return door_link_raw_init1_read(tep, aes128, aes256, chacha20, door_link_bytes(bytes), door_link_length(bytes, bytes_length));
+}
 
-/* Reads Init2 at host A, whose own Init1 offered the ciphers `own`. Bytes behind the message are not read.
+/* Reads Init2 at host A, whose own Init1 offered the ciphers `own`. Bytes behind the message are not read. Null bytes are none, refused with 9; a null list is empty,
+ * so that a whole message is refused with 10.
  * Replies: INIT. Refused: 3 for another TEP or more than 255 ciphers; 8; 9; 10 where the cipher is none of them. */
-struct door_link_init_reply door_link_init2_read(uint8_t tep, const uint16_t *own, size_t own_count, const uint8_t *bytes, size_t bytes_length);
+struct door_link_init_reply door_link_raw_init2_read(uint8_t tep, const uint16_t *own, size_t own_count, const uint8_t *bytes,
+                                                     size_t bytes_length) __asm__("door_link_init2_read");
+static inline __typeof__(door_link_raw_init2_read) door_link_init2_read __asm__("door_link_or_null_init2_read");
+static inline struct door_link_init_reply door_link_init2_read(uint8_t tep, const uint16_t *own, size_t own_count, const uint8_t *bytes, size_t bytes_length) {
+    door_link_abi();
+    return door_link_raw_init2_read(tep, door_link_ciphers(own), own ? own_count : 0, door_link_bytes(bytes), door_link_length(bytes, bytes_length));
+}
 
 /* ---- Frames. An offset is a place in one direction's stream of bytes: the first frame begins behind that direction's Init message, or at 0 where a session is
  * resumed and there is none; each further one where NEXT or HEADER says. ---- */
@@ -127,31 +166,62 @@ struct door_link_reply door_link_next_offset(uint64_t offset, size_t clen);
  *   rekey   as door_link_send or door_link_initiate gave it
  *   clen    bytes of the ciphertext: the plaintext and 16 for the tag
  *   offset  where the frame begins
+ *   out     lent; null is refused with 5
  * Replies: NEXT. Refused: 5; 11. */
-struct door_link_reply door_link_header_write(bool rekey, size_t clen, uint64_t offset, uint8_t *out, size_t out_length);
+struct door_link_reply door_link_raw_header_write(bool rekey, size_t clen, uint64_t offset, uint8_t *out, size_t out_length) __asm__("door_link_header_write");
+static inline __typeof__(door_link_raw_header_write) door_link_header_write __asm__("door_link_or_null_header_write");
+static inline struct door_link_reply door_link_header_write(bool rekey, size_t clen, uint64_t offset, uint8_t *out, size_t out_length) {
+    uint8_t none[1];
+    door_link_abi();
+    return door_link_raw_header_write(rekey, clen, offset, out ? out : none, door_link_length(out, out_length));
+}
 
-/* Reads the header of a frame that begins at an offset: three bytes, and whatever follows them.
+/* Reads the header of a frame that begins at an offset: three bytes, and whatever follows them. Null is no bytes: refused with 9.
  * Replies: HEADER. Refused: 9; 11, which ends the connection. */
-struct door_link_header_reply door_link_header_read(const uint8_t *bytes, size_t bytes_length, uint64_t offset);
+struct door_link_header_reply door_link_raw_header_read(const uint8_t *bytes, size_t bytes_length, uint64_t offset) __asm__("door_link_header_read");
+static inline __typeof__(door_link_raw_header_read) door_link_header_read __asm__("door_link_or_null_header_read");
+static inline struct door_link_header_reply door_link_header_read(const uint8_t *bytes, size_t bytes_length, uint64_t offset) {
+    door_link_abi();
+    return door_link_raw_header_read(door_link_bytes(bytes), door_link_length(bytes, bytes_length), offset);
+}
 
 /* The frame ID of a frame that begins at an offset. Never refused.
  * It begins with 44 41 54 41, where RFC 8548 has four zero bytes: a peer that follows the RFC computes other nonces (docs/DECISIONS.md, entry 1). */
 struct door_link_id door_link_frame_id(uint64_t offset);
 
 /* The nonce of a frame that begins at an offset: its frame ID XOR the fixed nonce of the generation and the direction, 12 bytes.
- * Replies: NONCE. Refused: 3 for another length. */
-struct door_link_nonce_reply door_link_nonce(const uint8_t *fixed, size_t fixed_length, uint64_t offset);
+ * Replies: NONCE. Refused: 3 for another length, and for null. */
+struct door_link_nonce_reply door_link_raw_nonce(const uint8_t *fixed, size_t fixed_length, uint64_t offset) __asm__("door_link_nonce");
+static inline __typeof__(door_link_raw_nonce) door_link_nonce __asm__("door_link_or_null_nonce");
+static inline struct door_link_nonce_reply door_link_nonce(const uint8_t *fixed, size_t fixed_length, uint64_t offset) {
+    door_link_abi();
+    return door_link_raw_nonce(door_link_bytes(fixed), door_link_length(fixed, fixed_length), offset);
+}
 
 /* Writes a frame's plaintext, which the host then ciphers: flags, the urgent field where urg is set, and the payload, perhaps of no bytes.
  *   fin     the last frame of this direction: the same as for door_link_send or door_link_initiate
- *   out     lent; as long as the payload and three bytes is always enough
+ *   payload  null is no bytes
+ *   out     lent; as long as the payload and three bytes is always enough; null is refused with 5
  * Replies: WRITTEN. Refused: 5; 11 above 65,519 bytes in all. */
-struct door_link_reply door_link_plaintext_write(bool fin, bool urg, uint16_t urgent, const uint8_t *payload, size_t payload_length, uint8_t *out,
-                                                 size_t out_length);
+struct door_link_reply door_link_raw_plaintext_write(bool fin, bool urg, uint16_t urgent, const uint8_t *payload, size_t payload_length, uint8_t *out,
+                                                     size_t out_length) __asm__("door_link_plaintext_write");
+static inline __typeof__(door_link_raw_plaintext_write) door_link_plaintext_write __asm__("door_link_or_null_plaintext_write");
+static inline struct door_link_reply door_link_plaintext_write(bool fin, bool urg, uint16_t urgent, const uint8_t *payload, size_t payload_length, uint8_t *out,
+                                                               size_t out_length) {
+    uint8_t none[1];
+    door_link_abi();
+    return door_link_raw_plaintext_write(fin, urg, urgent, door_link_bytes(payload), door_link_length(payload, payload_length), out ? out : none,
+                                         door_link_length(out, out_length));
+}
 
-/* Reads a plaintext whose tag was good.
+/* Reads a plaintext whose tag was good. Null is no bytes: refused with 12.
  * Replies: PLAINTEXT. Refused: 12, which ends the connection. */
-struct door_link_plaintext_reply door_link_plaintext_read(const uint8_t *bytes, size_t bytes_length);
+struct door_link_plaintext_reply door_link_raw_plaintext_read(const uint8_t *bytes, size_t bytes_length) __asm__("door_link_plaintext_read");
+static inline __typeof__(door_link_raw_plaintext_read) door_link_plaintext_read __asm__("door_link_or_null_plaintext_read");
+static inline struct door_link_plaintext_reply door_link_plaintext_read(const uint8_t *bytes, size_t bytes_length) {
+    door_link_abi();
+    return door_link_raw_plaintext_read(door_link_bytes(bytes), door_link_length(bytes, bytes_length));
+}
 
 /* ---- Generations: rekeying. Each connection has one record, which the host keeps beside it. ---- */
 
@@ -191,7 +261,8 @@ struct door_link_generation_step door_link_initiate(struct door_link_generations
  * Replies: RECEIVED. Refused: 13. */
 struct door_link_generation_step door_link_receive_frame(struct door_link_generations g, bool rekey);
 
-/* The same steps with the record behind a pointer: *g is the record before, and the record afterwards when the call returns. */
+/* The same steps with the record behind a pointer: *g is the record before, and the record afterwards when the call returns. `g` is not null. A received frame's step
+ * counts only once the tag was good: take door_link_receive_frame and keep its record then, or door_link_generations_receive where the tag is known already. */
 
 static inline struct door_link_generation_step door_link_generations_send(struct door_link_generations *g, bool fin) {
     door_link_abi();
@@ -235,10 +306,18 @@ struct door_link_judgement {
     uint8_t transcript[DOOR_LINK_TRANSCRIPT];   /* host A's option, then host B's; zeros behind them, and where there is no transcript */
 };
 
-/* What two option areas of SYN segments come to, this end's own and the other side's, each 0 to 40 bytes.
+/* What two option areas of SYN segments come to, this end's own and the other side's, each 0 to 40 bytes; null is an empty
+ * area, which gives reason 2.
  * Replies: ENCRYPTED; PLAIN with reason 1 to 6. Where both areas are unreadable, place and option are those of the own area. Refused: 2. */
-struct door_link_judgement door_link_judge(const uint8_t *own_area, size_t own_length, const uint8_t *peer_area, size_t peer_length, bool mandatory,
-                                           struct door_link_hand hand);
+struct door_link_judgement door_link_raw_judge(const uint8_t *own_area, size_t own_length, const uint8_t *peer_area, size_t peer_length, bool mandatory,
+                                               struct door_link_hand hand) __asm__("door_link_judge");
+static inline __typeof__(door_link_raw_judge) door_link_judge __asm__("door_link_or_null_judge");
+static inline struct door_link_judgement door_link_judge(const uint8_t *own_area, size_t own_length, const uint8_t *peer_area, size_t peer_length, bool mandatory,
+                                                         struct door_link_hand hand) {
+    door_link_abi();
+    return door_link_raw_judge(door_link_bytes(own_area), door_link_length(own_area, own_length), door_link_bytes(peer_area),
+                               door_link_length(peer_area, peer_length), mandatory, hand);
+}
 
 #ifdef __cplusplus
 }

@@ -32,9 +32,6 @@ static size_t area_of(uint8_t area[DOOR_LINK_OPTION], const uint8_t *option, siz
     return length + 2;
 }
 
-/* An ENO option with nothing in it: what a segment without SYN carries. */
-static const uint8_t bare[2] = {0x45, 0x02};
-
 struct end {
     struct door_link_unit unit;
     size_t door;
@@ -48,32 +45,34 @@ struct end {
 static uint8_t connect_ends(struct end *active, struct end *passive, bool resume) {
     static const uint8_t active_teps[3] = {DOOR_LINK_P256, DOOR_LINK_CURVE448, DOOR_LINK_CURVE25519};
     static const uint8_t passive_teps[2] = {DOOR_LINK_CURVE448, DOOR_LINK_CURVE25519};
-    static const uint8_t active_nonce[8] = {1, 2, 3, 4, 5, 6, 7, 8};
-    static const uint8_t passive_nonce[4] = {9, 10, 11, 12};
+    static const uint8_t active_nonce[DOOR_LINK_NONCE_BYTES] = {1, 2, 3, 4, 5, 6, 7, 8}; /* a host takes random bytes */
+    static const uint8_t passive_nonce[DOOR_LINK_NONCE_BYTES] = {9, 10, 11, 12, 13, 14, 15, 16};
     uint8_t option[DOOR_LINK_OPTION], area[DOOR_LINK_OPTION];
     struct door_link_reply reply;
 
     /* SYN */
-    reply = door_link_unit_offer(&active->unit, active->door, 0, false, false, active_teps, 3, resume, active_nonce, 8, option, sizeof option);
-    EXPECT(says(reply, DOOR_LINK_WRITTEN, resume ? 22 : 5));
-    size_t length = area_of(area, option, reply.number);
+    reply = door_link_unit_offer(&active->unit, active->door, 0, false, false, active_teps, 3, resume, active_nonce, sizeof active_nonce, option,
+                                 sizeof option);
+    EXPECT(door_link_written(reply) == (resume ? 22 : 5));
+    size_t length = area_of(area, option, door_link_written(reply));
 
     /* SYN+ACK */
-    reply = door_link_unit_answer(&passive->unit, passive->door, area, length, false, false, passive_teps, 2, passive_nonce, 4, option, sizeof option);
-    EXPECT(says(reply, DOOR_LINK_WRITTEN, resume ? 17 : 4));
-    length = area_of(area, option, reply.number);
+    reply = door_link_unit_answer(&passive->unit, passive->door, area, length, false, false, passive_teps, 2, passive_nonce, sizeof passive_nonce,
+                                  option, sizeof option);
+    EXPECT(door_link_written(reply) == (resume ? 21 : 4));
+    length = area_of(area, option, door_link_written(reply));
     reply = door_link_unit_receive(&active->unit, active->door, true, true, area, length);
-    EXPECT(says(reply, DOOR_LINK_NOW, DOOR_LINK_OPEN));
+    EXPECT(door_link_is_open(reply));
 
     /* ACK, with the other end's SYN+ACK once more before it */
     reply = door_link_unit_resend(&passive->unit, passive->door, option, sizeof option);
-    EXPECT(says(reply, DOOR_LINK_WRITTEN, resume ? 17 : 4));
-    reply = door_link_unit_receive(&passive->unit, passive->door, false, true, bare, sizeof bare);
-    EXPECT(says(reply, DOOR_LINK_NOW, DOOR_LINK_OPEN));
+    EXPECT(says(reply, DOOR_LINK_WRITTEN, resume ? 21 : 4));
+    reply = door_link_unit_receive(&passive->unit, passive->door, false, true, door_link_ack_option, sizeof door_link_ack_option);
+    EXPECT(door_link_is_open(reply));
 
     struct door_link_reply a = door_link_unit_result(&active->unit, active->door, active->transcript, sizeof active->transcript, active->secret);
     struct door_link_reply b = door_link_unit_result(&passive->unit, passive->door, passive->transcript, sizeof passive->transcript, passive->secret);
-    EXPECT(says(a, DOOR_LINK_ENCRYPTED, resume ? 39 : 9) && says(b, DOOR_LINK_ENCRYPTED, a.number));
+    EXPECT(says(a, DOOR_LINK_ENCRYPTED, resume ? 43 : 9) && says(b, DOOR_LINK_ENCRYPTED, a.number));
     EXPECT(a.role == 0 && b.role == 1);
     EXPECT(a.tep == b.tep && a.resumed == b.resumed && a.resumed == (resume ? 1 : 0));
     EXPECT(memcmp(active->transcript, passive->transcript, a.number) == 0);

@@ -287,7 +287,7 @@ int main(void) {
     memset(&unit, 0xee, sizeof unit);
     door_link_unit_erase(&unit);
     EXPECT(all_zero((const uint8_t *)&unit, sizeof unit));
-    EXPECT(door_link_abi_1() == DOOR_LINK_ABI && door_link_unit_size() == sizeof unit);
+    EXPECT(door_link_abi_2() == DOOR_LINK_ABI && door_link_unit_size() == sizeof unit);
 
     /* The second record's row, and its number at the door. */
     EXPECT(door_link_unit_store(&unit, 22, 0x23, 0, identifier, 18, secret, 32).kind == DOOR_LINK_DONE);
@@ -296,14 +296,14 @@ int main(void) {
     EXPECT(u.owners[0] == 23 && u.owners[1] == 24 && u.owners[2] == 0);
     EXPECT(u.rows[1].tep == 0x24 && u.rows[1].role == 1);
     EXPECT(memcmp(u.rows[1].identifier, identifier, 18) == 0 && memcmp(u.rows[1].secret, secret, 32) == 0);
-    EXPECT(u.doors[23].count == 1 && u.doors[23].rows[0] == 1 && u.doors[23].phase == DOOR_LINK_IDLE);
+    EXPECT(u.doors[23].count == 1 && u.doors[23].rows[0] == 1 && u.doors[23].phase == 0);
 
     /* Offered with that record in hand. */
     struct door_link_reply reply = door_link_unit_offer(&unit, 23, 0, true, true, teps, 2, true, nonce, 3, out, sizeof out);
     EXPECT(reply.kind == DOOR_LINK_WRITTEN && reply.number == 17);
     u = seen(&unit);
     EXPECT(u.owners[1] == 0 && u.rows[1].tep == 0 && u.doors[23].count == 0);
-    EXPECT(u.doors[23].phase == DOOR_LINK_OFFERED && u.doors[23].mandatory == 1);
+    EXPECT(u.doors[23].phase == 1 && u.doors[23].mandatory == 1);
     EXPECT(u.doors[23].own_length == 17 && memcmp(u.doors[23].own, out, 17) == 0);
     EXPECT(u.doors[23].held == 1 && u.doors[23].hand_tep == 0x24 && u.doors[23].hand_role == 1);
     EXPECT(memcmp(u.doors[23].hand_identifier, identifier, 18) == 0);
@@ -314,7 +314,7 @@ int main(void) {
     memcpy(area + 4, identifier, 9);
     EXPECT(door_link_unit_receive(&unit, 23, true, true, area, 13).number == DOOR_LINK_OPEN);
     u = seen(&unit);
-    EXPECT(u.doors[23].phase == DOOR_LINK_OPEN && u.doors[23].role == 0 && u.doors[23].tep == 0xa4 && u.doors[23].resumed == 1);
+    EXPECT(u.doors[23].phase == 4 && u.doors[23].role == 0 && u.doors[23].tep == 0xa4 && u.doors[23].resumed == 1);
     EXPECT(u.doors[23].peer_length == 13 && memcmp(u.doors[23].peer, area, 13) == 0);
 
     /* Plain: the other side has no option. */

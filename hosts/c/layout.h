@@ -14,7 +14,7 @@ struct session_record {
 
 /* A door's bytes: its numbers, then the two options, then identifier and secret of the record in hand. A flag is a byte. */
 struct door {
-    uint8_t phase;
+    uint8_t phase; /* 0 Idle to 4 Open, 5 Plain */
     uint8_t mandatory; /* a flag */
     uint8_t reason;
     uint8_t place;

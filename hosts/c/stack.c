@@ -5,7 +5,7 @@
 
 #include <stdio.h>
 
-enum { MOST = 4096, ROUNDS = 400, CALLS_A_ROUND = 20, CALLS_OF_A_UNIT = 8000, CALLS_WITHOUT_A_UNIT = 2000 };
+enum { MOST = DOOR_LINK_STACK, ROUNDS = 400, CALLS_A_ROUND = 20, CALLS_OF_A_UNIT = 8000, CALLS_WITHOUT_A_UNIT = 2000 };
 
 /* What the calls without a unit are given. */
 static struct {

@@ -75,7 +75,7 @@ fn respond(
 {
     let n = door::held_count(view);
     let hand = opening::hand_at(view, at);
-    let said = option_writer::write_answer(aware, tep, hand, nonce, out);
+    let said = option_answer::write_answer(aware, tep, hand, nonce, out);
     match said {
         OptionWritten::Wrote(k) => {
             let door = answered_door(&out[0..k], option, mandatory, tep, hand);

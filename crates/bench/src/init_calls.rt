@@ -17,7 +17,7 @@ fn ciphers(line: &[u8], word: u32, out: &mut [u16]) -> usize {
         if out.len() <= i {
             return n;
         }
-        out[i] = wire::read_u16(&list, 2 * i);
+        out[i] = wire_numbers::read_u16(&list, 2 * i);
         i += 1;
     }
     n
@@ -42,7 +42,7 @@ fn written_words(came: InitWritten, out: &mut [u8]) -> usize {
 fn taken(line: &[u8]) -> u16 {
     let mut cipher = [0u8; 2];
     read::list(line, word::TAKEN, &mut cipher);
-    wire::read_u16(&cipher, 0)
+    wire_numbers::read_u16(&cipher, 0)
 }
 
 fn write1(line: &[u8], nonce: &[u8], key: &[u8], lent: &mut [u8]) -> InitWritten {

@@ -53,7 +53,7 @@ fn place(s: &[u8], word: u32) -> usize {
     let mut i = 0;
     while i < s.len() {
         if s[i] == b' ' {
-            if wire::read_u32(s, i + 1) == word {
+            if wire_numbers::read_u32(s, i + 1) == word {
                 if s.len() - i < 5 {
                     return s.len();
                 }

@@ -75,8 +75,8 @@ fn write_transcript<'a>(out: &mut [u8], own: &'a [u8], peer: &'a [u8], own_is_b:
     requires { ⌜ length (now own) + length (now peer) ≤ length (now out) ⌝ }
     ensures { λ _. ⌜ now (out .exit) ≡ pasted (now (out .entry)) 0 (ofA «own_is_b» (now (own .entry)) (now (peer .entry)) ++ ofB «own_is_b» (now (own .entry)) (now (peer .entry))) ⌝ }
 {
-    let a = judge::host_a_option(own, peer, own_is_b);
-    let b = judge::host_b_option(own, peer, own_is_b);
+    let a = judgement::host_a_option(own, peer, own_is_b);
+    let b = judgement::host_b_option(own, peer, own_is_b);
     let next = a.len();
     wire::copy(out, 0, a);
     wire::copy(out, next, b);

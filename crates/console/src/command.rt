@@ -1,61 +1,13 @@
 // What a line may ask. Bytes of its words stand in the buffers beside a command, which holds how many there are.
 use init::Enabled;
 
-// The words of the lines that are commands.
-pub enum Name {
-    Door,
-    B,
-    Role,
-    A,
-    Mandatory,
-    Resume,
-    Syn,
-    Ack,
-    Tep,
-    Teps,
-    Nonce,
-    Area,
-    Identifier,
-    Secret,
-    Buf,
-    Cipher,
-    Ciphers,
-    Enabled,
-    Key,
-    Bytes,
-    Rekey,
-    Length,
-    Offset,
-    Fixed,
-    Fin,
-    Urg,
-    Urgent,
-    Data,
-    Local,
-    Remote,
-    Last,
-}
-
-// The forms that words have.
-pub enum Form {
-    // To 2^64 - 1, to 65,535 and to 255.
-    Number,
-    Short,
-    Small,
-    Flag,
-    Octet,
-    Cipher,
-    Bytes,
-    Ciphers,
-    Enabled,
-}
-
 // What a line that is no command has wrong.
 pub enum Expected {
     Shorter,
     Command,
     End,
-    Word { name: Name, form: Form },
+    // A word of `names`, of a form of `forms`.
+    Word { name: usize, form: usize },
 }
 
 // The words of an offer.

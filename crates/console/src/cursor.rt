@@ -1,14 +1,12 @@
 // The words of a line one after the other: each reader goes on from where the last stopped, and the first word that is wrong is kept to the end.
 use crate::command::Command;
 use crate::command::Expected;
-use crate::command::Form;
-use crate::command::Name;
+use crate::forms;
+use crate::names;
 use crate::text::part;
-use crate::words::Bytes;
-use crate::words::Number;
-use crate::words::read_bytes;
-use crate::words::read_number;
 use init::Enabled;
+use text_words::Bytes;
+use text_words::Number;
 ghost use Prim.Native.Nat.{_≤_};
 
 // Where the next word is read, whether one before it is wrong, and what is expected: that word, or else the line's end.
@@ -63,7 +61,7 @@ pub fn sound(at: usize) -> Cursor {
 }
 
 // After a word that is wrong; where one before it is, that one stays.
-fn broken(from: Cursor, name: Name, form: Form) -> Cursor {
+fn broken(from: Cursor, name: usize, form: usize) -> Cursor {
     if from.wrong {
         return from;
     }
@@ -84,14 +82,27 @@ pub fn ended(line: &[u8], from: Cursor, asked: Command) -> Command {
     Command::Unfit(expected)
 }
 
-fn limited(line: &[u8], from: Cursor, name: Name, form: Form, most: u64) -> NumberWord
+// Where the word behind a space begins; past every line where there is none.
+fn word_start(line: &[u8], at: usize) -> usize {
+    if line.len() <= at {
+        return NOWHERE;
+    }
+    if line[at] != b' ' {
+        return NOWHERE;
+    }
+    at + 1
+}
+
+fn limited(line: &[u8], from: Cursor, name: usize, form: usize, most: u64) -> NumberWord
     ensures { λ r. ⌜ r .value ≤ most ⌝ }
 {
-    let read = read_number(line, from.at);
-    match read {
-        Number::Read { value, next } => {
+    let first = word_start(line, from.at);
+    let end = text_words::word_end(line, first);
+    let said = text_words::number_said(text_words::between(line, first, end));
+    match said {
+        Number::Said(value) => {
             if value <= most {
-                let after = sound(next);
+                let after = sound(end);
                 return NumberWord { value, next: after };
             }
             let after = broken(from, name, form);
@@ -110,12 +121,12 @@ fn limited(line: &[u8], from: Cursor, name: Name, form: Form, most: u64) -> Numb
     }
 }
 
-pub fn number(line: &[u8], from: Cursor, name: Name) -> NumberWord {
-    limited(line, from, name, Form::Number, 0xffff_ffff_ffff_ffff)
+pub fn number(line: &[u8], from: Cursor, name: usize) -> NumberWord {
+    limited(line, from, name, forms::NUMBER, 0xffff_ffff_ffff_ffff)
 }
 
-pub fn short(line: &[u8], from: Cursor, name: Name) -> ShortWord {
-    let read = limited(line, from, name, Form::Short, 65535);
+pub fn short(line: &[u8], from: Cursor, name: usize) -> ShortWord {
+    let read = limited(line, from, name, forms::SHORT, 65535);
     let next = read.next;
     ShortWord {
         value: read.value as u16,
@@ -123,8 +134,8 @@ pub fn short(line: &[u8], from: Cursor, name: Name) -> ShortWord {
     }
 }
 
-pub fn small(line: &[u8], from: Cursor, name: Name) -> OctetWord {
-    let read = limited(line, from, name, Form::Small, 255);
+pub fn small(line: &[u8], from: Cursor, name: usize) -> OctetWord {
+    let read = limited(line, from, name, forms::SMALL, 255);
     let next = read.next;
     OctetWord {
         value: read.value as u8,
@@ -132,8 +143,8 @@ pub fn small(line: &[u8], from: Cursor, name: Name) -> OctetWord {
     }
 }
 
-pub fn flag(line: &[u8], from: Cursor, name: Name) -> FlagWord {
-    let read = limited(line, from, name, Form::Flag, 1);
+pub fn flag(line: &[u8], from: Cursor, name: usize) -> FlagWord {
+    let read = limited(line, from, name, forms::FLAG, 1);
     let next = read.next;
     FlagWord {
         value: read.value == 1,
@@ -141,11 +152,13 @@ pub fn flag(line: &[u8], from: Cursor, name: Name) -> FlagWord {
     }
 }
 
-fn hex(line: &[u8], from: Cursor, name: Name, form: Form, into: &mut [u8]) -> BytesWord {
-    let read = read_bytes(line, from.at, into);
-    match read {
-        Bytes::Read { length, next } => {
-            let after = sound(next);
+fn hex(line: &[u8], from: Cursor, name: usize, form: usize, into: &mut [u8]) -> BytesWord {
+    let first = word_start(line, from.at);
+    let end = text_words::word_end(line, first);
+    let said = text_words::bytes_said(text_words::between(line, first, end), into);
+    match said {
+        Bytes::Said(length) => {
+            let after = sound(end);
             BytesWord {
                 length,
                 next: after,
@@ -161,12 +174,12 @@ fn hex(line: &[u8], from: Cursor, name: Name, form: Form, into: &mut [u8]) -> By
     }
 }
 
-pub fn bytes(line: &[u8], from: Cursor, name: Name, into: &mut [u8]) -> BytesWord {
-    hex(line, from, name, Form::Bytes, into)
+pub fn bytes(line: &[u8], from: Cursor, name: usize, into: &mut [u8]) -> BytesWord {
+    hex(line, from, name, forms::BYTES, into)
 }
 
 // Bytes of an even length.
-fn pairs(line: &[u8], from: Cursor, name: Name, form: Form, into: &mut [u8]) -> BytesWord {
+fn pairs(line: &[u8], from: Cursor, name: usize, form: usize, into: &mut [u8]) -> BytesWord {
     let read = hex(line, from, name, form, into);
     if read.length % 2 == 0 {
         return read;
@@ -180,13 +193,13 @@ fn pairs(line: &[u8], from: Cursor, name: Name, form: Form, into: &mut [u8]) -> 
 
 // Two bytes a cipher.
 pub fn ciphers(line: &[u8], from: Cursor, into: &mut [u8]) -> BytesWord {
-    pairs(line, from, Name::Ciphers, Form::Ciphers, into)
+    pairs(line, from, names::CIPHERS, forms::CIPHERS, into)
 }
 
 // One byte in hex.
-pub fn octet(line: &[u8], from: Cursor, name: Name) -> OctetWord {
+pub fn octet(line: &[u8], from: Cursor, name: usize) -> OctetWord {
     let mut one = [0u8; 1];
-    let read = hex(line, from, name, Form::Octet, &mut one);
+    let read = hex(line, from, name, forms::OCTET, &mut one);
     if read.length == 1 {
         let next = read.next;
         return OctetWord {
@@ -194,7 +207,7 @@ pub fn octet(line: &[u8], from: Cursor, name: Name) -> OctetWord {
             next,
         };
     }
-    let after = broken(from, name, Form::Octet);
+    let after = broken(from, name, forms::OCTET);
     OctetWord {
         value: 0,
         next: after,
@@ -204,15 +217,15 @@ pub fn octet(line: &[u8], from: Cursor, name: Name) -> OctetWord {
 // Two bytes in hex.
 pub fn cipher(line: &[u8], from: Cursor) -> ShortWord {
     let mut two = [0u8; 2];
-    let read = hex(line, from, Name::Cipher, Form::Cipher, &mut two);
+    let read = hex(line, from, names::CIPHER, forms::CIPHER, &mut two);
     if read.length == 2 {
         let next = read.next;
         return ShortWord {
-            value: wire::read_u16(&two, 0),
+            value: wire_numbers::read_u16(&two, 0),
             next,
         };
     }
-    let after = broken(from, Name::Cipher, Form::Cipher);
+    let after = broken(from, names::CIPHER, forms::CIPHER);
     ShortWord {
         value: 0,
         next: after,
@@ -231,7 +244,7 @@ fn enabled_in(ciphers: &[u8]) -> Listed {
     let mut chacha20 = false;
     let mut i = 0;
     while i < ciphers.len() {
-        let cipher = wire::read_u16(ciphers, i);
+        let cipher = wire_numbers::read_u16(ciphers, i);
         match cipher {
             0x0001 => {
                 aes128 = true;
@@ -257,7 +270,7 @@ fn enabled_in(ciphers: &[u8]) -> Listed {
 }
 
 pub fn enabled(line: &[u8], from: Cursor, into: &mut [u8]) -> EnabledWord {
-    let read = pairs(line, from, Name::Enabled, Form::Enabled, into);
+    let read = pairs(line, from, names::ENABLED, forms::ENABLED, into);
     let list = enabled_in(part(into, read.length));
     match list {
         Listed::Known(value) => {
@@ -265,7 +278,7 @@ pub fn enabled(line: &[u8], from: Cursor, into: &mut [u8]) -> EnabledWord {
             EnabledWord { value, next }
         }
         Listed::Other => {
-            let after = broken(from, Name::Enabled, Form::Enabled);
+            let after = broken(from, names::ENABLED, forms::ENABLED);
             EnabledWord {
                 value: Enabled {
                     aes128: false,

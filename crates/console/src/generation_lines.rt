@@ -1,17 +1,17 @@
 // The lines for the generation record: their words, in order.
 use crate::command::Command;
-use crate::command::Name;
 use crate::command::Rekeying;
 use crate::cursor::Cursor;
 use crate::cursor::ended;
 use crate::cursor::flag;
 use crate::cursor::short;
+use crate::names;
 
 pub fn lend(line: &[u8], at: Cursor) -> Command {
-    let local = short(line, at, Name::Local);
-    let remote = short(line, local.next, Name::Remote);
-    let last = short(line, remote.next, Name::Last);
-    let fin = flag(line, last.next, Name::Fin);
+    let local = short(line, at, names::LOCAL);
+    let remote = short(line, local.next, names::REMOTE);
+    let last = short(line, remote.next, names::LAST);
+    let fin = flag(line, last.next, names::FIN);
     let lend = Rekeying::Lend {
         local: local.value,
         remote: remote.value,
@@ -22,14 +22,14 @@ pub fn lend(line: &[u8], at: Cursor) -> Command {
 }
 
 pub fn send(line: &[u8], at: Cursor) -> Command {
-    let fin = flag(line, at, Name::Fin);
+    let fin = flag(line, at, names::FIN);
     let send = Rekeying::Send { fin: fin.value };
     ended(line, fin.next, Command::Rekeying(send))
 }
 
 pub fn initiate(line: &[u8], at: Cursor) -> Command {
-    let has_data = flag(line, at, Name::Data);
-    let fin = flag(line, has_data.next, Name::Fin);
+    let has_data = flag(line, at, names::DATA);
+    let fin = flag(line, has_data.next, names::FIN);
     let initiate = Rekeying::Initiate {
         has_data: has_data.value,
         fin: fin.value,
@@ -38,7 +38,7 @@ pub fn initiate(line: &[u8], at: Cursor) -> Command {
 }
 
 pub fn take(line: &[u8], at: Cursor) -> Command {
-    let rekey = flag(line, at, Name::Rekey);
+    let rekey = flag(line, at, names::REKEY);
     let take = Rekeying::Take { rekey: rekey.value };
     ended(line, rekey.next, Command::Rekeying(take))
 }

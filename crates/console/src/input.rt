@@ -1,5 +1,7 @@
 // Lines of standard input: bytes are read in chunks and collected into a line.
 use crate::text::part;
+use text_lines::Collected;
+use text_lines::collect;
 
 // Where reading stands.
 pub struct Place {
@@ -25,38 +27,14 @@ pub fn start() -> Place {
     }
 }
 
-// Collects the chunk's bytes from `from` on into the line, to the newline or the chunk's end.
-fn collect(chunk: &[u8], from: usize, line: &mut [u8], before: usize, long: bool) -> Place {
-    let filled = chunk.len();
-    let mut used = from;
-    let mut kept = before;
-    let mut too_long = long;
-    while used < chunk.len() {
-        let byte = chunk[used];
-        used += 1;
-        if byte == b'\n' {
-            return Place {
-                filled,
-                used,
-                length: kept,
-                long: too_long,
-                whole: true,
-                over: false,
-            };
-        }
-        if kept < line.len() {
-            line[kept] = byte;
-            kept += 1;
-        } else {
-            too_long = true;
-        }
-    }
+// Where reading stands after a chunk's bytes were collected.
+fn collected(chunk: &[u8], line: Collected) -> Place {
     Place {
-        filled,
-        used,
-        length: kept,
-        long: too_long,
-        whole: false,
+        filled: chunk.len(),
+        used: line.used,
+        length: line.length,
+        long: line.long,
+        whole: line.whole,
         over: false,
     }
 }
@@ -64,9 +42,9 @@ fn collect(chunk: &[u8], from: usize, line: &mut [u8], before: usize, long: bool
 // Goes on with a line, or with a new one where the last is whole.
 fn resume(chunk: &[u8], from: usize, line: &mut [u8], at: Place) -> Place {
     if at.whole {
-        return collect(chunk, from, line, 0, false);
+        return collected(chunk, collect(chunk, from, line, 0, false));
     }
-    collect(chunk, from, line, at.length, at.long)
+    collected(chunk, collect(chunk, from, line, at.length, at.long))
 }
 
 // Whether bytes stand in an unfinished line; a byte that is too many follows others.

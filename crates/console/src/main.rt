@@ -1,12 +1,14 @@
 // The console: reads commands from standard input, a line each, runs each on one unit and writes one line for each (docs/CONSOLE.md).
 mod command;
 mod cursor;
+mod forms;
 mod generation_calls;
 mod generation_lines;
 mod input;
 mod message_calls;
 mod message_lines;
 mod message_replies;
+mod names;
 mod parse;
 mod refused;
 mod text;
@@ -15,7 +17,6 @@ mod unfit;
 mod unit_calls;
 mod unit_lines;
 mod unit_replies;
-mod words;
 
 use command::Command;
 use generation::GenerationRecord;

@@ -20,7 +20,7 @@ fn listed(bytes: &[u8], into: &mut [u16]) -> usize
         if into.len() <= i {
             return i;
         }
-        let cipher = wire::read_u16(bytes, 2 * i);
+        let cipher = wire_numbers::read_u16(bytes, 2 * i);
         into[i] = cipher;
         i += 1;
     }

@@ -1,7 +1,6 @@
 // The lines for the finder, Init messages and frames: their words, in order.
 use crate::command::Command;
 use crate::command::Message;
-use crate::command::Name;
 use crate::cursor::Cursor;
 use crate::cursor::bytes;
 use crate::cursor::cipher;
@@ -12,10 +11,11 @@ use crate::cursor::flag;
 use crate::cursor::number;
 use crate::cursor::octet;
 use crate::cursor::short;
+use crate::names;
 
 pub fn find(line: &[u8], at: Cursor, first: &mut [u8]) -> Command {
-    let syn = flag(line, at, Name::Syn);
-    let area = bytes(line, syn.next, Name::Area, first);
+    let syn = flag(line, at, names::SYN);
+    let area = bytes(line, syn.next, names::AREA, first);
     let message = Message::Find {
         syn: syn.value,
         area: area.length,
@@ -31,11 +31,11 @@ pub fn init1_write(
     third: &mut [u8],
     lent: &mut [u8],
 ) -> Command {
-    let tep = octet(line, at, Name::Tep);
+    let tep = octet(line, at, names::TEP);
     let list = ciphers(line, tep.next, first);
-    let nonce = bytes(line, list.next, Name::Nonce, second);
-    let key = bytes(line, nonce.next, Name::Key, third);
-    let room = bytes(line, key.next, Name::Buf, lent);
+    let nonce = bytes(line, list.next, names::NONCE, second);
+    let key = bytes(line, nonce.next, names::KEY, third);
+    let room = bytes(line, key.next, names::BUF, lent);
     let message = Message::Init1Write {
         tep: tep.value,
         ciphers: list.length,
@@ -47,9 +47,9 @@ pub fn init1_write(
 }
 
 pub fn init1_read(line: &[u8], at: Cursor, first: &mut [u8], second: &mut [u8]) -> Command {
-    let tep = octet(line, at, Name::Tep);
+    let tep = octet(line, at, names::TEP);
     let list = enabled(line, tep.next, first);
-    let whole = bytes(line, list.next, Name::Bytes, second);
+    let whole = bytes(line, list.next, names::BYTES, second);
     let value = list.value;
     let message = Message::Init1Read {
         tep: tep.value,
@@ -66,11 +66,11 @@ pub fn init2_write(
     second: &mut [u8],
     lent: &mut [u8],
 ) -> Command {
-    let tep = octet(line, at, Name::Tep);
+    let tep = octet(line, at, names::TEP);
     let taken = cipher(line, tep.next);
-    let nonce = bytes(line, taken.next, Name::Nonce, first);
-    let key = bytes(line, nonce.next, Name::Key, second);
-    let room = bytes(line, key.next, Name::Buf, lent);
+    let nonce = bytes(line, taken.next, names::NONCE, first);
+    let key = bytes(line, nonce.next, names::KEY, second);
+    let room = bytes(line, key.next, names::BUF, lent);
     let message = Message::Init2Write {
         tep: tep.value,
         cipher: taken.value,
@@ -82,9 +82,9 @@ pub fn init2_write(
 }
 
 pub fn init2_read(line: &[u8], at: Cursor, first: &mut [u8], second: &mut [u8]) -> Command {
-    let tep = octet(line, at, Name::Tep);
+    let tep = octet(line, at, names::TEP);
     let list = ciphers(line, tep.next, first);
-    let whole = bytes(line, list.next, Name::Bytes, second);
+    let whole = bytes(line, list.next, names::BYTES, second);
     let message = Message::Init2Read {
         tep: tep.value,
         ciphers: list.length,
@@ -94,10 +94,10 @@ pub fn init2_read(line: &[u8], at: Cursor, first: &mut [u8], second: &mut [u8]) 
 }
 
 pub fn header_write(line: &[u8], at: Cursor, lent: &mut [u8]) -> Command {
-    let rekey = flag(line, at, Name::Rekey);
-    let clen = number(line, rekey.next, Name::Length);
-    let offset = number(line, clen.next, Name::Offset);
-    let room = bytes(line, offset.next, Name::Buf, lent);
+    let rekey = flag(line, at, names::REKEY);
+    let clen = number(line, rekey.next, names::LENGTH);
+    let offset = number(line, clen.next, names::OFFSET);
+    let room = bytes(line, offset.next, names::BUF, lent);
     let message = Message::HeaderWrite {
         rekey: rekey.value,
         clen: clen.value as usize,
@@ -108,8 +108,8 @@ pub fn header_write(line: &[u8], at: Cursor, lent: &mut [u8]) -> Command {
 }
 
 pub fn header_read(line: &[u8], at: Cursor, first: &mut [u8]) -> Command {
-    let offset = number(line, at, Name::Offset);
-    let header = bytes(line, offset.next, Name::Bytes, first);
+    let offset = number(line, at, names::OFFSET);
+    let header = bytes(line, offset.next, names::BYTES, first);
     let message = Message::HeaderRead {
         offset: offset.value,
         bytes: header.length,
@@ -118,8 +118,8 @@ pub fn header_read(line: &[u8], at: Cursor, first: &mut [u8]) -> Command {
 }
 
 pub fn nonce(line: &[u8], at: Cursor, first: &mut [u8]) -> Command {
-    let offset = number(line, at, Name::Offset);
-    let fixed = bytes(line, offset.next, Name::Fixed, first);
+    let offset = number(line, at, names::OFFSET);
+    let fixed = bytes(line, offset.next, names::FIXED, first);
     let message = Message::Nonce {
         offset: offset.value,
         fixed: fixed.length,
@@ -128,11 +128,11 @@ pub fn nonce(line: &[u8], at: Cursor, first: &mut [u8]) -> Command {
 }
 
 pub fn plaintext_write(line: &[u8], at: Cursor, first: &mut [u8], lent: &mut [u8]) -> Command {
-    let fin = flag(line, at, Name::Fin);
-    let urg = flag(line, fin.next, Name::Urg);
-    let urgent = short(line, urg.next, Name::Urgent);
-    let payload = bytes(line, urgent.next, Name::Data, first);
-    let room = bytes(line, payload.next, Name::Buf, lent);
+    let fin = flag(line, at, names::FIN);
+    let urg = flag(line, fin.next, names::URG);
+    let urgent = short(line, urg.next, names::URGENT);
+    let payload = bytes(line, urgent.next, names::DATA, first);
+    let room = bytes(line, payload.next, names::BUF, lent);
     let message = Message::PlaintextWrite {
         fin: fin.value,
         urg: urg.value,
@@ -144,7 +144,7 @@ pub fn plaintext_write(line: &[u8], at: Cursor, first: &mut [u8], lent: &mut [u8
 }
 
 pub fn plaintext_read(line: &[u8], at: Cursor, first: &mut [u8]) -> Command {
-    let plaintext = bytes(line, at, Name::Bytes, first);
+    let plaintext = bytes(line, at, names::BYTES, first);
     let message = Message::PlaintextRead {
         bytes: plaintext.length,
     };

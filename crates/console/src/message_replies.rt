@@ -10,7 +10,6 @@ use crate::text::finish_lent;
 use crate::text::part;
 use crate::text::put;
 use crate::text::put_counted;
-use crate::text::rest;
 use eno::Tep;
 use finder::FindStatus;
 use frame::HeaderRead;
@@ -178,6 +177,6 @@ pub fn plaintext_read(out: &mut [u8], answer: PlaintextRead, bytes: &[u8]) {
     let after_fin = and_flag(out, at, fin);
     let after_urg = and_flag(out, after_fin, urg);
     let after_urgent = and_number(out, after_urg, urgent as u64);
-    let end = and_hex(out, after_urgent, rest(bytes, data_at));
+    let end = and_hex(out, after_urgent, text_words::from(bytes, data_at));
     finish(out, end, 1);
 }

@@ -4,7 +4,6 @@ use crate::command::Ask;
 use crate::command::Command;
 use crate::command::Forget;
 use crate::command::Look;
-use crate::command::Name;
 use crate::command::Offer;
 use crate::command::Receive;
 use crate::command::Store;
@@ -15,6 +14,7 @@ use crate::cursor::flag;
 use crate::cursor::number;
 use crate::cursor::octet;
 use crate::cursor::small;
+use crate::names;
 
 pub fn offer(
     line: &[u8],
@@ -23,14 +23,14 @@ pub fn offer(
     second: &mut [u8],
     lent: &mut [u8],
 ) -> Command {
-    let door = number(line, at, Name::Door);
-    let b = small(line, door.next, Name::B);
-    let aware = flag(line, b.next, Name::A);
-    let mandatory = flag(line, aware.next, Name::Mandatory);
-    let teps = bytes(line, mandatory.next, Name::Teps, first);
-    let resume = flag(line, teps.next, Name::Resume);
-    let nonce = bytes(line, resume.next, Name::Nonce, second);
-    let room = bytes(line, nonce.next, Name::Buf, lent);
+    let door = number(line, at, names::DOOR);
+    let b = small(line, door.next, names::B);
+    let aware = flag(line, b.next, names::A);
+    let mandatory = flag(line, aware.next, names::MANDATORY);
+    let teps = bytes(line, mandatory.next, names::TEPS, first);
+    let resume = flag(line, teps.next, names::RESUME);
+    let nonce = bytes(line, resume.next, names::NONCE, second);
+    let room = bytes(line, nonce.next, names::BUF, lent);
     let words = Offer {
         door: door.value as usize,
         b: b.value,
@@ -54,11 +54,11 @@ fn answer_to(
     third: &mut [u8],
     lent: &mut [u8],
 ) -> Command {
-    let aware = flag(line, at, Name::A);
-    let mandatory = flag(line, aware.next, Name::Mandatory);
-    let teps = bytes(line, mandatory.next, Name::Teps, second);
-    let nonce = bytes(line, teps.next, Name::Nonce, third);
-    let room = bytes(line, nonce.next, Name::Buf, lent);
+    let aware = flag(line, at, names::A);
+    let mandatory = flag(line, aware.next, names::MANDATORY);
+    let teps = bytes(line, mandatory.next, names::TEPS, second);
+    let nonce = bytes(line, teps.next, names::NONCE, third);
+    let room = bytes(line, nonce.next, names::BUF, lent);
     let words = Answer {
         door,
         area,
@@ -79,8 +79,8 @@ pub fn answer(
     third: &mut [u8],
     lent: &mut [u8],
 ) -> Command {
-    let door = number(line, at, Name::Door);
-    let area = bytes(line, door.next, Name::Area, first);
+    let door = number(line, at, names::DOOR);
+    let area = bytes(line, door.next, names::AREA, first);
     answer_to(
         line,
         area.next,
@@ -93,10 +93,10 @@ pub fn answer(
 }
 
 pub fn receive(line: &[u8], at: Cursor, first: &mut [u8]) -> Command {
-    let door = number(line, at, Name::Door);
-    let syn = flag(line, door.next, Name::Syn);
-    let ack = flag(line, syn.next, Name::Ack);
-    let area = bytes(line, ack.next, Name::Area, first);
+    let door = number(line, at, names::DOOR);
+    let syn = flag(line, door.next, names::SYN);
+    let ack = flag(line, syn.next, names::ACK);
+    let area = bytes(line, ack.next, names::AREA, first);
     let words = Receive {
         door: door.value as usize,
         syn: syn.value,
@@ -107,8 +107,8 @@ pub fn receive(line: &[u8], at: Cursor, first: &mut [u8]) -> Command {
 }
 
 pub fn resend(line: &[u8], at: Cursor, lent: &mut [u8]) -> Command {
-    let door = number(line, at, Name::Door);
-    let room = bytes(line, door.next, Name::Buf, lent);
+    let door = number(line, at, names::DOOR);
+    let room = bytes(line, door.next, names::BUF, lent);
     let look = Look::Resend {
         door: door.value as usize,
         room: room.length,
@@ -117,8 +117,8 @@ pub fn resend(line: &[u8], at: Cursor, lent: &mut [u8]) -> Command {
 }
 
 pub fn result(line: &[u8], at: Cursor, lent: &mut [u8]) -> Command {
-    let door = number(line, at, Name::Door);
-    let room = bytes(line, door.next, Name::Buf, lent);
+    let door = number(line, at, names::DOOR);
+    let room = bytes(line, door.next, names::BUF, lent);
     let look = Look::Result {
         door: door.value as usize,
         room: room.length,
@@ -127,7 +127,7 @@ pub fn result(line: &[u8], at: Cursor, lent: &mut [u8]) -> Command {
 }
 
 pub fn close(line: &[u8], at: Cursor) -> Command {
-    let door = number(line, at, Name::Door);
+    let door = number(line, at, names::DOOR);
     ended(
         line,
         door.next,
@@ -136,11 +136,11 @@ pub fn close(line: &[u8], at: Cursor) -> Command {
 }
 
 pub fn store(line: &[u8], at: Cursor, first: &mut [u8], second: &mut [u8]) -> Command {
-    let door = number(line, at, Name::Door);
-    let tep = octet(line, door.next, Name::Tep);
-    let role = small(line, tep.next, Name::Role);
-    let identifier = bytes(line, role.next, Name::Identifier, first);
-    let secret = bytes(line, identifier.next, Name::Secret, second);
+    let door = number(line, at, names::DOOR);
+    let tep = octet(line, door.next, names::TEP);
+    let role = small(line, tep.next, names::ROLE);
+    let identifier = bytes(line, role.next, names::IDENTIFIER, first);
+    let secret = bytes(line, identifier.next, names::SECRET, second);
     let words = Store {
         door: door.value as usize,
         tep: tep.value,
@@ -152,9 +152,9 @@ pub fn store(line: &[u8], at: Cursor, first: &mut [u8], second: &mut [u8]) -> Co
 }
 
 pub fn forget(line: &[u8], at: Cursor, first: &mut [u8]) -> Command {
-    let door = number(line, at, Name::Door);
-    let tep = octet(line, door.next, Name::Tep);
-    let identifier = bytes(line, tep.next, Name::Identifier, first);
+    let door = number(line, at, names::DOOR);
+    let tep = octet(line, door.next, names::TEP);
+    let identifier = bytes(line, tep.next, names::IDENTIFIER, first);
     let words = Forget {
         door: door.value as usize,
         tep: tep.value,
@@ -164,7 +164,7 @@ pub fn forget(line: &[u8], at: Cursor, first: &mut [u8]) -> Command {
 }
 
 pub fn count(line: &[u8], at: Cursor) -> Command {
-    let door = number(line, at, Name::Door);
+    let door = number(line, at, names::DOOR);
     let look = Look::Count {
         door: door.value as usize,
     };

@@ -16,6 +16,7 @@ use Rattle.eno.specs.Suboption.{suboptions, isIllFormed, awareBit, globalByte}
 use Rattle.eno.specs.Judge.{isUnreadable, isMissing, roleOf, awareOf, tepsOf}
 use Rattle.eno.specs.Option.{isTepList}
 use Rattle.eno.specs.Laws.Found.{found-option, found-short}
+use Rattle.eno.specs.Laws.Tests.{Found, short-finds, is-found, aware-or-not}
 use Rattle.suboptions.specs.Summary.{entriesOf, summaryOf}
 use Rattle.suboptions.specs.Laws.{saying, summary-says}
 use Rattle.suboptions.specs.declared.Summary.{Summary}
@@ -25,33 +26,6 @@ use Rattle.tep_choice.specs.Choosing.{chosenBy}
 use Rattle.tep_choice.specs.Laws.Choice.{chosen-is}
 use Rattle.tep_choice.specs.Laws.Listing.{tep-list}
 use Rattle.deciding.specs.Steps.{missedAs, summedUp, decidedBy}
-
--- only an area that is too long is refused
-choose-finds : (l : List Placed) → choose true l ≡ refused → ⊥
-unfolding choose
-choose-finds [] e = let z : _≡_ {A = ℕ} 0 1 = cc in omega arith
-choose-finds (x ∷ []) e = let z : _≡_ {A = ℕ} 0 1 = cc in omega arith
-choose-finds (x ∷ y ∷ l) e = let z : _≡_ {A = ℕ} 0 1 = cc in omega arith
-
-chosen-finds : (r : Reading Fault Placed) → chosen true r ≡ refused → ⊥
-unfolding chosen
-chosen-finds (faulty f) e = let z : _≡_ {A = ℕ} 0 1 = cc in omega arith
-chosen-finds (readable l) e = choose-finds (enos l) e
-
-finds : (s : List ℕ) → length s ≤ 40 → finding s true ≡ refused → ⊥
-unfolding finding
-finds s h e = chosen-finds (options s) (sym (rw (le-ltb 40 (length s) h)) ∙ e)
-
--- bit a is 0 or 1
-aware-or-not : (o : List ℕ) → eqb (awareOf o) 0 ≡ not (eqb (awareOf o) 1)
-unfolding awareOf awareBit
-aware-or-not o = go (globalByte (listed (suboptions o)))
-  where
-    go : (x : ℕ) → eqb (x / 2 % 2) 0 ≡ not (eqb (x / 2 % 2) 1)
-    go x = elim (ℕ-discrete (x / 2 % 2) 0) [
-      | yes e ↦ simp e
-      | no e ↦ let q : x / 2 % 2 ≡ 1 = omega arith in simp q
-    ]
 
 -- the reasons, one after another
 by-reasons : (i r u : Bool) (x : Answering)
@@ -71,7 +45,7 @@ module _ (v : Seen) (mandatory : Bool) (area list : List ℕ) (short : length ar
   missed-is z = go (finding area true) refl
     where
       go : (f : Finding) → finding area true ≡ f → missedAs f ≡ A
-      go refused q = absurd (finds area short q)
+      go refused q = absurd (short-finds area short q)
       go (unreadable y) q = rw q
       go missing q = rw q
       go (found i n) q =
@@ -86,19 +60,9 @@ module _ (v : Seen) (mandatory : Bool) (area list : List ℕ) (short : length ar
   within = let h = found-short area true o is in omega arith
 
   module _ (some-bytes : length o ≡ 0 → ⊥) where
-    record Found : Type 0 where
-      pub not-unreadable : isUnreadable (finding area true) ≡ false
-      pub not-missing : isMissing (finding area true) ≡ false
-
-    is-found : Found
-    unfolding synOption partOf
-    is-found = go (finding area true) refl
-      where
-        go : (f : Finding) → finding area true ≡ f → Found
-        go refused q = absurd (some-bytes (ap length (is ∙ ap (partOf area) q)))
-        go (unreadable x) q = absurd (some-bytes (ap length (is ∙ ap (partOf area) q)))
-        go missing q = absurd (some-bytes (ap length (is ∙ ap (partOf area) q)))
-        go (found i n) q = record { not-unreadable = ap isUnreadable q; not-missing = ap isMissing q }
+    found-here : Found area
+    unfolding synOption
+    found-here = is-found area o is some-bytes
 
     after-found : A ≡ cond (isIllFormed (suboptions o)) (plainFor (numbered 3))
         (cond (eqb (roleOf o) 1) (plainFor (numbered 4))
@@ -106,7 +70,7 @@ module _ (v : Seen) (mandatory : Bool) (area list : List ℕ) (short : length ar
         (chosenOr (chooseTep o list (v .held)))))
     unfolding answering answerReason firstCause
     after-found =
-        let F = is-found in
+        let F = found-here in
         rw is
         (simp (F .not-unreadable, F .not-missing)
         (by-reasons (isIllFormed (suboptions (synOption area))) (eqb (roleOf (synOption area)) 1) (mandatory && eqb (awareOf (synOption area)) 0)

@@ -9,6 +9,7 @@ use Rattle.wire.specs.Bytes.{pasted}
 use Rattle.eno.specs.Cause.{numbered}
 use Rattle.eno.specs.Option.{isListed, isTepList, offered, optionWith}
 use Rattle.eno.specs.declared.SessionRecord.{SessionRecord}
+use Rattle.eno.specs.declared.InHand.{InHand}
 use Rattle.door.specs.Door.{Phase, idle, offering, crossed, answering, opened, unencrypted, phaseOf, kept, handOf, Seen}
 use Rattle.door.specs.Record.{firstThat, recordAt}
 use Rattle.door.specs.Outcome.{Outcome, written, keep, remove, refusal, unless}
@@ -30,9 +31,9 @@ termsFit aware mandatory list nonce = isTepList list && leb (length nonce) 8 && 
 unfoldable pub offeredAt : Bool → List ℕ → List SessionRecord → ℕ
 offeredAt resume list held = cond resume (firstThat (λ r. isListed (r .tep) list) held) (length held)
 
--- a door that has sent the option o, with a record in hand or none
-unfoldable pub offeredDoor : List ℕ → Bool → Option SessionRecord → Door
-offeredDoor o mandatory hand =
+-- a door that has sent the option o, by what it has in hand
+abbrev pub doorOffered : List ℕ → Bool → InHand → Door
+doorOffered o mandatory hand =
     record {
       phase = 1;
       mandatory = mandatory;
@@ -44,8 +45,12 @@ offeredDoor o mandatory hand =
       «peer_length» = 0;
       own = kept o;
       peer = kept [];
-      hand = handOf hand;
+      hand = hand;
     }
+
+-- with a record in hand or none
+unfoldable pub offeredDoor : List ℕ → Bool → Option SessionRecord → Door
+offeredDoor o mandatory hand = doorOffered o mandatory (handOf hand)
 
 -- the record leaves the pool and is in hand; it never goes back
 unfoldable pub offer : Seen → (b : ℕ) (aware mandatory : Bool) (list : List ℕ) (resume : Bool) (nonce s : List ℕ) → Outcome

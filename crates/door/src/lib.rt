@@ -82,17 +82,11 @@ pub enum Reply {
     Holds(usize),
 }
 
-fn wide(x: u8) -> usize
-    ensures { λ r. ⌜ r ≡ x ⌝ }
-{
-    x as usize
-}
-
 // How many records a count stands for: a count above the most reads as the most.
 pub fn listed_count(count: u8) -> usize
     ensures { λ r. ⌜ r ≡ min count eachN ⌝ }
 {
-    let n = wide(count);
+    let n = wire::wide(count);
     if EACH < n {
         return EACH;
     }

@@ -7,3 +7,5 @@ pub mod Found
 pub mod Suboption
 pub mod Teps
 pub mod Asked
+pub mod Tests
+pub mod Held

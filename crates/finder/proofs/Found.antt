@@ -10,7 +10,7 @@ use lib.ListN.{length, take, drop}
 use denote.Enum.Declared
 use Rattle.wire.specs.Bytes.{part}
 use Rattle.eno.specs.Area.{partOf, finding, status}
-use Rattle.finder.specs.Answers.{findingOf, Within, Locates}
+use Rattle.finder.specs.Answers.{findingOf, Within, Locates, startOf}
 use Rattle.finder.specs.declared.Located.{Located}
 use Rattle.finder.specs.declared.Located.the-variants as located
 
@@ -23,6 +23,9 @@ module _ (s : List ℕ) (syn : Bool) (r : Located) (l : Locates s syn r) where
   found-bytes i k e =
       ap (λ n. take n (drop i s)) (add-sub-cancel-left i k)
       ∙ (ap (λ x. partOf s (findingOf x)) (sym e) ∙ ap (partOf s) (l .right))
+
+  pub found-start : (i k : ℕ) → r ≡ located.Found i k → i ≡ startOf (finding s syn)
+  found-start i k e = ap (λ x. startOf (findingOf x)) (sym e) ∙ ap startOf (l .right)
 
   -- the word for a known answer of `locate`
   pub told : (x : Located) → r ≡ x → status (findingOf x) ≡ status (finding s syn)
@@ -38,3 +41,10 @@ no-bytes s syn located.Refused l h = ap (partOf s) (l .right)
 no-bytes s syn (located.Unreadable i k) l h = ap (partOf s) (l .right)
 no-bytes s syn located.Missing l h = ap (partOf s) (l .right)
 no-bytes s syn (located.Found i k) l h = absurd (⊎-elim (λ e. omega arith) (⊎-elim (λ e. omega arith) (λ e. omega arith)) h)
+
+pub no-start : (s : List ℕ) (syn : Bool) (r : Located) → Locates s syn r
+    → (tag r ≡ 0) ⊎ ((tag r ≡ 1) ⊎ (tag r ≡ 2)) → 0 ≡ startOf (finding s syn)
+no-start s syn located.Refused l h = ap startOf (l .right)
+no-start s syn (located.Unreadable i k) l h = ap startOf (l .right)
+no-start s syn located.Missing l h = ap startOf (l .right)
+no-start s syn (located.Found i k) l h = absurd (⊎-elim (λ e. omega arith) (⊎-elim (λ e. omega arith) (λ e. omega arith)) h)

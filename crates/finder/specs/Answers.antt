@@ -60,3 +60,10 @@ word-back says.Refused = refl
 -- the view loses nothing: two answers with the same word are the same
 pub status-tells : (a b : FindStatus) → statusOf a ≡ statusOf b → a ≡ b
 status-tells a b e = sym (word-back a) ∙ (ap wordOf e ∙ word-back b)
+
+-- where the part that is handed back begins: at the option, or at the area's start
+abbrev pub startOf : Finding → ℕ
+startOf refused = 0
+startOf (unreadable f) = 0
+startOf missing = 0
+startOf (found i n) = i

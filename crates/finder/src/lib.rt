@@ -1,7 +1,8 @@
 // The finder: the ENO option of a TCP option area, as a part of that area.
 ghost use mathlib.Core.Path.{_≡_};
+ghost use Prim.Native.Nat.{_+_};
 ghost use Rattle.eno.specs.Area.{optionAt, finding, partOf, status};
-ghost use Rattle.finder.specs.Answers.{pieceOf, Locates, statusOf};
+ghost use Rattle.finder.specs.Answers.{pieceOf, Locates, statusOf, startOf};
 
 // What stands at a place of an option area.
 enum OptionAt {
@@ -93,7 +94,7 @@ fn locate(area: &[u8], syn: bool) -> Located
 
 // The ENO option, kind and length byte included, as a part of the area; the empty part area[0..0] where there is none.
 pub fn find_option(area: &[u8], syn: bool) -> &[u8]
-    ensures { λ r. ⌜ now r ≡ partOf (now (area .entry)) (finding (now (area .entry)) syn) ⌝ }
+    ensures { λ r. ⌜ (now r ≡ partOf (now (area .entry)) (finding (now (area .entry)) syn)) × (r .ptr .0 ≡ area .entry .ptr .0) × (r .ptr .1 ≡ area .entry .ptr .1 + startOf (finding (now (area .entry)) syn)) ⌝ }
 {
     let place = locate(area, syn);
     match place {

@@ -37,7 +37,7 @@ fn put_three(s: &mut [u8], x: u8, y: u16)
 {
     let one = [x];
     wire::copy(s, 0, &one);
-    wire::write_u16(s, 1, y);
+    wire_numbers::write_u16(s, 1, y);
 }
 
 // The control byte that is sent.
@@ -75,7 +75,7 @@ pub fn read_header(bytes: &[u8], offset: u64) -> HeaderRead
             associated: [0u8; 3],
         };
     }
-    let clen = wire::read_u16(bytes, 1);
+    let clen = wire_numbers::read_u16(bytes, 1);
     let after = next_offset(offset, clen as usize);
     match after {
         NextOffset::NoFrame => HeaderRead {

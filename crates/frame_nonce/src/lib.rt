@@ -11,7 +11,7 @@ pub fn frame_id(offset: u64) -> [u8; 12]
     ensures { λ r. ⌜ r ≡ frameId offset ⌝ }
 {
     let mut id = [0u8; 12];
-    wire::write_frame_id(&mut id, 0, offset);
+    wire_numbers::write_frame_id(&mut id, 0, offset);
     id
 }
 

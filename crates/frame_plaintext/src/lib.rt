@@ -43,7 +43,7 @@ fn put_heading(s: &mut [u8], fin: bool, urg: bool, urgent: u16)
     if !urg {
         return;
     }
-    wire::write_u16(s, 1, urgent);
+    wire_numbers::write_u16(s, 1, urgent);
 }
 
 // Writes a plaintext, whose data field is the payload; the urgent field is written only with URGp.
@@ -92,7 +92,7 @@ pub fn read_plaintext(bytes: &[u8]) -> PlaintextRead
     if n < 3 {
         return PlaintextRead::Short;
     }
-    let urgent = wire::read_u16(bytes, 1);
+    let urgent = wire_numbers::read_u16(bytes, 1);
     PlaintextRead::Plaintext {
         fin,
         urg: true,

@@ -28,10 +28,10 @@ const UNIT_SIZE: usize = ROWS + ROWS * ROW + DOORS * PLACE;
 
 // The number of this interface, which its name carries: a host built for another does not link.
 #[no_mangle]
-pub extern "C" fn door_link_abi_1() -> usize
-    ensures { λ r. ⌜ r ≡ 1 ⌝ }
+pub extern "C" fn door_link_abi_2() -> usize
+    ensures { λ r. ⌜ r ≡ 2 ⌝ }
 {
-    1
+    2
 }
 
 // The bytes of the three arrays: owners, rows and doors.

@@ -5,10 +5,10 @@ use mathlib.Core.List.{List, []}
 use mathlib.Core.Bool.{Bool, true, false}
 use lib.ListN.{length}
 use Rattle.eno.specs.Judge.{Judged, wayIf}
-use Rattle.judge.specs.Answers.{judgedOf, transcriptOf, Judges}
-use Rattle.judge.specs.declared.Verdict.{Verdict}
-use Rattle.judge.specs.declared.Verdict.the-variants as verdict
-use Rattle.judge.specs.declared.Judgement.{Judgement}
+use Rattle.judgement.specs.Answers.{judgedOf, transcriptOf, Judges}
+use Rattle.judgement.specs.declared.Verdict.{Verdict}
+use Rattle.judgement.specs.declared.Verdict.the-variants as verdict
+use Rattle.judgement.specs.declared.Judgement.{Judgement}
 use Rattle.host_reply.specs.Numbers.{flagNumber}
 use Rattle.host_reply.specs.Numbers.{wayNumber}
 use Rattle.host_judge.specs.Replies.{judgedNumbers, judgementNumbers}

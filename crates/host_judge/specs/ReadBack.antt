@@ -7,7 +7,7 @@ use lib.Dec.{eqb}
 use lib.ListN.{length, take}
 use lib.Seq.{take-at}
 use Rattle.eno.specs.Judge.{Judged, refuse, plain, encrypt}
-use Rattle.judge.specs.Answers.{padded}
+use Rattle.judgement.specs.Answers.{padded}
 use Rattle.host_reply.specs.Numbers.{wayOf, way-back}
 use Rattle.host_judge.specs.Replies.{judgedNumbers, judgementNumbers}
 use Rattle.host_judge.specs.declared.JudgementNumbers.{JudgementNumbers}

@@ -2,7 +2,7 @@
 use Prim.Native.Nat.{ℕ}
 use lib.ListN.{length}
 use Rattle.eno.specs.Judge.{Judged, refuse, plain, encrypt}
-use Rattle.judge.specs.Answers.{transcriptOf, padded}
+use Rattle.judgement.specs.Answers.{transcriptOf, padded}
 use Rattle.host_reply.specs.Numbers.{ofKind, plainNumbers, wayNumber}
 use Rattle.host_reply.specs.declared.ReplyNumbers.{ReplyNumbers}
 use Rattle.host_judge.specs.declared.JudgementNumbers.{JudgementNumbers}

@@ -4,12 +4,12 @@ use host_reply::ReplyNumbers;
 use host_reply::flag_number;
 use host_reply::of_kind;
 use host_reply::plain_numbers;
-use judge::Verdict;
+use judgement::Verdict;
 ghost use mathlib.Core.Path.{_≡_};
 ghost use mathlib.Core.List.{[]};
 ghost use Rattle.eno.specs.Session.{inHand};
 ghost use Rattle.eno.specs.Judge.{judge};
-ghost use Rattle.judge.specs.Answers.{judgedOf};
+ghost use Rattle.judgement.specs.Answers.{judgedOf};
 ghost use Rattle.host_judge.specs.Replies.{judgedNumbers, judgementNumbers};
 
 // What the judge gives back; the transcript is zeros after its own length.
@@ -26,7 +26,7 @@ fn verdict_numbers(verdict: Verdict, length: usize) -> ReplyNumbers
     match verdict {
         Verdict::Refused => of_kind(0, 2),
         Verdict::Plain(reason) => {
-            let cause = judge::cause_of(reason);
+            let cause = judgement::cause_of(reason);
             plain_numbers(cause)
         }
         Verdict::Encrypted { role, tep, resumed } => {

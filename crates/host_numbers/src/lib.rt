@@ -8,8 +8,7 @@ use host_reply::plain_numbers;
 ghost use mathlib.Core.Path.{_≡_};
 ghost use mathlib.Core.List.{[]};
 ghost use Rattle.door.specs.Answers.{refusalNumber, phaseAs, replyOf};
-ghost use Rattle.door.specs.Door.{phaseNumber};
-ghost use Rattle.host_numbers.specs.Replies.{numbersOf};
+ghost use Rattle.host_numbers.specs.Replies.{phaseTold, numbersOf};
 
 // The number of a refusal.
 fn refusal_number(refusal: Refusal) -> usize
@@ -27,17 +26,17 @@ fn refusal_number(refusal: Refusal) -> usize
     }
 }
 
-// The number of a phase.
+// The number of a phase, as a reply tells it.
 fn phase_number(phase: Phase) -> usize
-    ensures { λ r. ⌜ r ≡ phaseNumber (phaseAs phase) ⌝ }
+    ensures { λ r. ⌜ r ≡ phaseTold (phaseAs phase) ⌝ }
 {
     match phase {
-        Phase::Idle => 0,
-        Phase::Offered => 1,
-        Phase::Crossed => 2,
-        Phase::Answered => 3,
-        Phase::Open => 4,
-        Phase::Plain => 5,
+        Phase::Idle => 0x1000000,
+        Phase::Offered => 0x1000001,
+        Phase::Crossed => 0x1000002,
+        Phase::Answered => 0x1000003,
+        Phase::Open => 0x1000004,
+        Phase::Plain => 0x1000005,
     }
 }
 

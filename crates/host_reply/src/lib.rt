@@ -19,13 +19,6 @@ pub struct ReplyNumbers {
     pub option: u8,
 }
 
-// A byte as a number of any size.
-pub fn wide(x: u8) -> usize
-    ensures { λ r. ⌜ r ≡ x ⌝ }
-{
-    x as usize
-}
-
 // 1 where a flag stands.
 pub fn flag_number(flag: bool) -> u8
     ensures { λ r. ⌜ r ≡ flagNumber flag ⌝ }

@@ -35,7 +35,7 @@ fn first_enabled(enabled: Enabled, s: &[u8], at: usize, count: usize) -> Choice
     let mut i = 0;
     let mut next = at;
     while i < count {
-        let cipher = wire::read_u16(s, next);
+        let cipher = wire_numbers::read_u16(s, next);
         if init_steps::is_enabled(enabled, cipher) {
             return Choice::Took(cipher);
         }
@@ -133,7 +133,7 @@ pub fn init2_read(tep: u8, own: &[u16], bytes: &[u8]) -> InitRead
         Progress::Unreadable => refused(InitAnswer::Unreadable),
         Progress::Incomplete => refused(InitAnswer::Incomplete),
         Progress::Whole(n) => {
-            let cipher = wire::read_u16(bytes, 8);
+            let cipher = wire_numbers::read_u16(bytes, 8);
             if !init_steps::is_in(own, cipher) {
                 return refused(InitAnswer::NoCommonCipher);
             }

@@ -16,12 +16,6 @@ pub enum Progress {
 // The greatest length that is read.
 const MOST: usize = 4096;
 
-fn wide(x: u8) -> usize
-    ensures { λ r. ⌜ (r ≡ x) × (r < 256) ⌝ }
-{
-    x as usize
-}
-
 // Whether the bytes at hand are the magic as far as both go.
 fn begins(magic: &[u8], s: &[u8]) -> bool
     ensures { λ r. ⌜ r ≡ agrees (now (magic .entry)) (now (s .entry)) ⌝ }
@@ -39,7 +33,7 @@ pub fn count_of(s: &[u8]) -> usize
     if s.len() <= 8 {
         return 0;
     }
-    wide(s[8])
+    wire::wide(s[8])
 }
 
 // How the bytes at hand stand, for a magic and for fields that end at a place.
@@ -49,7 +43,7 @@ pub fn settle(magic: &[u8], fields: usize, s: &[u8]) -> Progress
     if !begins(magic, s) {
         return Progress::Unreadable;
     }
-    let n = wire::read_u32(s, 4) as usize;
+    let n = wire_numbers::read_u32(s, 4) as usize;
     if MOST < n {
         return Progress::Unreadable;
     }

@@ -33,7 +33,7 @@ fn put_ciphers(s: &mut [u8], at: usize, ciphers: &[u16])
     let mut i = 0;
     let mut next = at;
     while i < ciphers.len() {
-        wire::write_u16(s, next, ciphers[i]);
+        wire_numbers::write_u16(s, next, ciphers[i]);
         i += 1;
         next += 2;
     }
@@ -62,7 +62,7 @@ pub fn init1_write(
     }
     let count = [ciphers.len() as u8];
     wire::copy(out, 0, b"\x15\x10\x1a\x0e");
-    wire::write_u32(out, 4, n as u32);
+    wire_numbers::write_u32(out, 4, n as u32);
     wire::copy(out, 8, &count);
     put_ciphers(out, 9, ciphers);
     wire::copy(out, at, nonce);
@@ -82,8 +82,8 @@ pub fn init2_write(tep: u8, cipher: u16, nonce: &[u8], key: &[u8], out: &mut [u8
         return InitWritten::NoRoom;
     }
     wire::copy(out, 0, b"\x09\x71\x05\xe0");
-    wire::write_u32(out, 4, whole as u32);
-    wire::write_u16(out, 8, cipher);
+    wire_numbers::write_u32(out, 4, whole as u32);
+    wire_numbers::write_u16(out, 8, cipher);
     wire::copy(out, 10, nonce);
     wire::copy(out, 42, key);
     InitWritten::Written(whole)

@@ -7,9 +7,8 @@ use mathlib.Core.Option.{Option}
 use Rattle.eno.specs.declared.SessionRecord.{SessionRecord}
 use Rattle.eno.specs.declared.InHand.{InHand}
 use Rattle.door.specs.Door.{handOf}
-use Rattle.door.specs.Offer.{offeredDoor}
-use Rattle.offering.specs.Steps.{doorOffered}
+use Rattle.door.specs.Offer.{doorOffered, offeredDoor}
 
 pub door-offered : (o : List ℕ) (mandatory : Bool) (h : InHand) (taken : Option SessionRecord) → h ≡ handOf taken → doorOffered o mandatory h ≡ offeredDoor o mandatory taken
-unfolding doorOffered offeredDoor
+unfolding offeredDoor
 door-offered o mandatory h taken e = rw e

@@ -1,41 +1,21 @@
 -- What the steps of offer tell.
 use Prim.Native.Nat.{ℕ}
 use mathlib.Core.List.{List, [], _∷_}
-use mathlib.Core.Bool.{Bool, false}
+use mathlib.Core.Bool.{Bool}
 use lib.Dec.{ltb}
 use lib.ListN.{length}
 use Rattle.wire.specs.Bytes.{pasted}
-use Rattle.eno.specs.Cause.{numbered}
 use Rattle.eno.specs.Option.{isListed, offered, optionWith}
 use Rattle.eno.specs.declared.SessionRecord.{SessionRecord}
-use Rattle.eno.specs.declared.InHand.{InHand}
-use Rattle.door.specs.Door.{Seen, kept}
+use Rattle.door.specs.Door.{Seen}
 use Rattle.door.specs.Record.{recordAt}
 use Rattle.door.specs.Outcome.{Outcome, written, refusal, unless}
 use Rattle.door.specs.Offer.{offeredDoor}
-use Rattle.door.specs.declared.Door.{Door}
 use Rattle.opening.specs.Steps.{taking}
 
 -- a record of a listed TEP
 unfoldable pub isOfListed : List ℕ → SessionRecord → Bool
 isOfListed list r = isListed (r .tep) list
-
--- a door that has sent the option o, by what it has in hand
-unfoldable pub doorOffered : List ℕ → Bool → InHand → Door
-doorOffered o mandatory hand =
-    record {
-      phase = 1;
-      mandatory = mandatory;
-      cause = numbered 0;
-      role = 0;
-      tep = 0;
-      resumed = false;
-      «own_length» = length o;
-      «peer_length» = 0;
-      own = kept o;
-      peer = kept [];
-      hand = hand;
-    }
 
 -- an offer whose arguments fit: the j-th oldest record is taken, if there is one
 unfoldable pub proposed : Seen → (b : ℕ) (aware mandatory : Bool) (list : List ℕ) (j : ℕ) (nonce s : List ℕ) → Outcome

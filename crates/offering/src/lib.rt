@@ -15,9 +15,9 @@ ghost use lib.ListN.{length};
 ghost use Rattle.eno.specs.Option.{offerFits};
 ghost use Rattle.door.specs.Door.{seenOf, noSession};
 ghost use Rattle.door.specs.Record.{firstThat, recordAt};
-ghost use Rattle.door.specs.Offer.{offeredAt, offer};
+ghost use Rattle.door.specs.Offer.{offeredAt, offer, doorOffered};
 ghost use Rattle.door.specs.Answers.{replyOf, effectOf, outcomeAs};
-ghost use Rattle.offering.specs.Steps.{isOfListed, doorOffered, proposed};
+ghost use Rattle.offering.specs.Steps.{isOfListed, proposed};
 
 // The oldest record whose TEP is listed; the number of records where there is none.
 fn first_listed(view: View, teps: &[u8]) -> usize
@@ -27,7 +27,7 @@ fn first_listed(view: View, teps: &[u8]) -> usize
     let mut i = 0;
     while i < n {
         let session = view.held[i];
-        if option_writer::is_listed(session.tep, teps) {
+        if option_arguments::is_listed(session.tep, teps) {
             return i;
         }
         i += 1;

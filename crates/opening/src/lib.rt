@@ -35,7 +35,7 @@ pub fn refused(door: Door, why: Refusal) -> Opening
 pub fn terms_fit(aware: bool, mandatory: bool, teps: &[u8], nonce: &[u8]) -> bool
     ensures { λ r. ⌜ r ≡ termsFit aware mandatory (now (teps .entry)) (now (nonce .entry)) ⌝ }
 {
-    if !option_writer::is_tep_list(teps) {
+    if !option_arguments::is_tep_list(teps) {
         return false;
     }
     if 8 < nonce.len() {

@@ -1,3 +1,2 @@
--- What the writer's answers mean, and its steps.
+-- What the writer's answers mean.
 pub mod Answers
-pub mod Steps

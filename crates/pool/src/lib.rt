@@ -38,10 +38,10 @@ pub fn position_at(doors: &[[u8; PLACE]; DOORS], d: usize) -> Position
 {
     if DOORS <= d {
         let zeros = [0u8; PLACE];
-        return unit_bytes::position_of(zeros);
+        return door_reader::position_of(zeros);
     }
     let bytes = doors[d];
-    unit_bytes::position_of(bytes)
+    door_reader::position_of(bytes)
 }
 
 // A door put in its place; past the last nothing is changed.
@@ -52,7 +52,7 @@ pub fn put_door(doors: &mut [[u8; PLACE]; DOORS], d: usize, position: Position)
         return;
     }
     let old = doors[d];
-    let bytes = unit_bytes::bytes_of(old, position);
+    let bytes = door_writer::bytes_of(old, position);
     doors[d] = bytes;
 }
 
@@ -82,7 +82,7 @@ pub fn lowest_free(owners: [u8; ROWS]) -> usize
 fn record_at(rows: &[[u8; ROW]; ROWS], number: u8) -> SessionRecord
     ensures { λ r. ⌜ r ≡ getD (rowsIn (now (rows .entry))) number noSession ⌝ }
 {
-    let row = row_list::wide(number);
+    let row = wire::wide(number);
     if ROWS <= row {
         return door::no_session();
     }

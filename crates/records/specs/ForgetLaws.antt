@@ -9,7 +9,7 @@ use Rattle.door.specs.Door.{Seen}
 use Rattle.door.specs.Outcome.{done, holds, keep, remove, refuse, refusal, unless}
 use Rattle.door.specs.Records.{isHeld, forget, count}
 use Rattle.door.specs.Answers.{outcomeAs}
-use Rattle.records.specs.Steps.{isNamed}
+use Rattle.record_tests.specs.Steps.{isNamed}
 
 module _ (v : Seen) (t : ℕ) (identifier : List ℕ) where
   pub forget-unfit : isNamed t identifier ≡ false → refuse 3 (v .door) [] ≡ forget v t identifier

@@ -1,6 +1,4 @@
--- What the calls on records tell, what their steps tell, and laws of the definitions.
+-- What the calls on records tell, and laws of the definitions.
 pub mod Answers
-pub mod Steps
-pub mod NameLaws
 pub mod StoreLaws
 pub mod ForgetLaws

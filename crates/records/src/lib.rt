@@ -4,21 +4,15 @@ use door::EACH;
 use door::Refusal;
 use door::Reply;
 use door::View;
-use eno::InHand;
 use eno::SessionRecord;
-use eno::Tep;
 ghost use mathlib.Core.Path.{_≡_};
 ghost use mathlib.Core.List.{[]};
 ghost use lib.ListN.{length};
-ghost use Rattle.eno.specs.Session.{inHand};
-ghost use Rattle.door.specs.Record.{firstThat, isSession};
 ghost use Rattle.door.specs.Door.{seenOf, noSession};
 ghost use Rattle.door.specs.Outcome.{keep};
-ghost use Rattle.door.specs.Records.{isInHand, isRecord};
 ghost use Rattle.door.specs.Records as records;
 ghost use Rattle.door.specs.Answers.{replyOf, effectOf, outcomeAs};
 ghost use Rattle.records.specs.Answers.{refusedStore, StoresAs};
-ghost use Rattle.records.specs.Steps.{isNamed};
 
 // What store does; `added` is the record that is added, else zeros.
 pub struct Stored {
@@ -31,68 +25,6 @@ pub struct Stored {
 pub struct Forgotten {
     pub change: Change,
     pub reply: Reply,
-}
-
-// Whether a record has this TEP and this identifier.
-fn is_session(session: SessionRecord, tep: u8, identifier: &[u8]) -> bool
-    ensures { λ r. ⌜ r ≡ isSession tep (now (identifier .entry)) session ⌝ }
-{
-    if session.tep != tep {
-        return false;
-    }
-    let other = session.identifier;
-    wire::same(&other, identifier)
-}
-
-// Which of the records held, oldest first, has this TEP and this identifier; how many are held where none has.
-fn first_session(view: View, tep: u8, identifier: &[u8]) -> usize
-    ensures { λ r. ⌜ r ≡ firstThat (isSession tep (now (identifier .entry))) (seenOf view .held) ⌝ }
-{
-    let n = door::held_count(view);
-    let mut i = 0;
-    while i < n {
-        let session = view.held[i];
-        if is_session(session, tep, identifier) {
-            return i;
-        }
-        i += 1;
-    }
-    n
-}
-
-// Whether the record in hand, if there is one, has this TEP and this identifier.
-fn is_in_hand(hand: InHand, tep: u8, identifier: &[u8]) -> bool
-    ensures { λ r. ⌜ r ≡ isInHand tep (now (identifier .entry)) (inHand hand) ⌝ }
-{
-    if !hand.held {
-        return false;
-    }
-    let session = hand.session;
-    is_session(session, tep, identifier)
-}
-
-// Whether a session may have this TEP and this identifier.
-fn is_named(tep: u8, identifier: &[u8]) -> bool
-    ensures { λ r. ⌜ r ≡ isNamed tep (now (identifier .entry)) ⌝ }
-{
-    let named = Tep::of(tep);
-    if !named.known {
-        return false;
-    }
-    identifier.len() == 18
-}
-
-// Whether these are the parts of a record.
-fn is_record(tep: u8, role: u8, identifier: &[u8], secret: &[u8]) -> bool
-    ensures { λ r. ⌜ r ≡ isRecord tep role (now (identifier .entry)) (now (secret .entry)) ⌝ }
-{
-    if !is_named(tep, identifier) {
-        return false;
-    }
-    if 1 < role {
-        return false;
-    }
-    secret.len() == 32
 }
 
 // An identifier as an array.
@@ -131,7 +63,7 @@ fn refused(why: Refusal) -> Stored
 pub fn store(view: View, free: bool, tep: u8, role: u8, identifier: &[u8], secret: &[u8]) -> Stored
     ensures { λ r. ⌜ StoresAs r (view .door) (records.store free (seenOf view) tep role (now (identifier .entry)) (now (secret .entry))) ⌝ }
 {
-    if !is_record(tep, role, identifier, secret) {
+    if !record_tests::is_record(tep, role, identifier, secret) {
         return refused(Refusal::Unfit);
     }
     let n = door::held_count(view);
@@ -141,13 +73,13 @@ pub fn store(view: View, free: bool, tep: u8, role: u8, identifier: &[u8], secre
     if !free {
         return refused(Refusal::Full);
     }
-    let first = first_session(view, tep, identifier);
+    let first = record_tests::first_session(view, tep, identifier);
     if first < n {
         return refused(Refusal::AlreadyHeld);
     }
     let door = view.door;
     let hand = door.hand;
-    if is_in_hand(hand, tep, identifier) {
+    if record_tests::is_in_hand(hand, tep, identifier) {
         return refused(Refusal::AlreadyHeld);
     }
     let name = identifier_of(identifier);
@@ -169,14 +101,14 @@ pub fn store(view: View, free: bool, tep: u8, role: u8, identifier: &[u8], secre
 pub fn forget(view: View, tep: u8, identifier: &[u8]) -> Forgotten
     ensures { λ r. ⌜ outcomeAs (replyOf (r .reply) []) [] (view .door) (effectOf (r .change) noSession) ≡ records.forget (seenOf view) tep (now (identifier .entry)) ⌝ }
 {
-    if !is_named(tep, identifier) {
+    if !record_tests::is_named(tep, identifier) {
         return Forgotten {
             change: Change::Keep,
             reply: Reply::Refused(Refusal::Unfit),
         };
     }
     let n = door::held_count(view);
-    let place = first_session(view, tep, identifier);
+    let place = record_tests::first_session(view, tep, identifier);
     if n <= place {
         return Forgotten {
             change: Change::Keep,

@@ -24,12 +24,6 @@ pub struct Listing {
     pub numbers: [u8; EACH],
 }
 
-pub fn wide(x: u8) -> usize
-    ensures { λ r. ⌜ r ≡ x ⌝ }
-{
-    x as usize
-}
-
 // How many rows a door lists; its list has a place for each.
 pub fn count_of(position: Position) -> usize
     ensures { λ r. ⌜ (r ≡ countOf position) × (length (position .rows) ≡ eachN) ⌝ }
@@ -95,7 +89,7 @@ fn without_record(n: usize, numbers: [u8; EACH], j: usize) -> Listing
     if n <= j {
         return misfit(numbers);
     }
-    let row = wide(numbers[j]);
+    let row = wire::wide(numbers[j]);
     let left = closed_up(numbers, j);
     let owner = 0u8;
     let count = (n - 1) as u8;

@@ -95,12 +95,12 @@ pub since-map : (P Q : Door → Type 0) → ((e : Door) → P e → Q e) → (d 
 since-map P Q f d cs xs a s = record { later = s .later; are = s .are; always = throughout-map P Q f d (unitThen d xs a) (s .later) (s .always) }
 
 -- a list of calls grows at its end
-grows : (P : List Call → Type 0) → ((cs : List Call) (c : Call) → P cs → P (cs ++ c ∷ [])) → (ys xs : List Call) → P xs → P (xs ++ ys)
+pub grows : (P : List Call → Type 0) → ((cs : List Call) (c : Call) → P cs → P (cs ++ c ∷ [])) → (ys xs : List Call) → P xs → P (xs ++ ys)
 grows P f [] xs p = subst P (sym (append-nil xs)) p
 grows P f (c ∷ ys) xs p = subst P (append-assoc xs (c ∷ []) ys) (grows P f ys (xs ++ c ∷ []) (f xs c p))
 
 module _ (d : ℕ) (h : d < doorsN) where
-  reached : (cs : List Call) → Inv (after emptyUnit cs)
+  pub reached : (cs : List Call) → Inv (after emptyUnit cs)
   reached cs = inv-after emptyUnit empty-inv cs
 
   abbrev next : List Call → Ask → Outcome
@@ -113,7 +113,7 @@ module _ (d : ℕ) (h : d < doorsN) where
   pub then-is : (cs : List Call) (a : Ask) → view (unitThen d cs a) d ≡ door.after (seenAfter d cs) (next cs a)
   then-is cs a = view-own (after emptyUnit cs) d (reached cs) h a
 
-  seen-one : (cs : List Call) (c : Call) → seenAfter d (cs ++ c ∷ []) ≡ view (step (after emptyUnit cs) c .unit) d
+  pub seen-one : (cs : List Call) (c : Call) → seenAfter d (cs ++ c ∷ []) ≡ view (step (after emptyUnit cs) c .unit) d
   seen-one cs c = ap (λ (u : LinkUnit). view u d) (after-one emptyUnit cs c)
 
   pub then-door : (cs : List Call) (a : Ask) → doorThen d cs a ≡ next cs a .door

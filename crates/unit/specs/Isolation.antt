@@ -49,7 +49,7 @@ module _ (u : LinkUnit) (d : ℕ) (s : Inv u) (h : d < doorsN) where
 
   pub step-is : (a : Ask) → step u (on d a) ≡ carried u d (its a)
   unfolding step stepOn
-  step-is a = rw (lt-ltb d doorsN h)
+  step-is a = ap (λ (b : Bool). stepOn b u d a) (lt-ltb d doorsN h)
 
   its-own : (a : Ask) → its a ≡ outcome true (view u d) a
   its-own a = outcome-own (isFree u) (view u d) a free-row

@@ -5,3 +5,4 @@ pub mod Calls
 pub mod Deeds
 pub mod Books
 pub mod Owned
+pub mod Shown

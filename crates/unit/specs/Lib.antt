@@ -12,8 +12,14 @@ pub mod Ledger
 pub mod RunTable
 pub mod History
 pub mod Results
+pub mod Confirmed
 pub mod Openings
+pub mod AcceptedStores
+pub mod Seen
+pub mod SeenLedger
+pub mod SeenBound
 pub mod Connections
 pub mod Stories
+pub mod Confirmations
 pub mod Named
 pub mod Causes

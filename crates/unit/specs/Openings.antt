@@ -1,6 +1,7 @@
 -- Demand 2, for lists of calls: every result that says resumed belongs to a connection that opened with that record in hand.
 use mathlib.Core.Path.{_≡_, refl, sym, ap, _∙_, subst}
 use mathlib.Core.Bool.{Bool, true, false, true≢false}
+use mathlib.Core.Logic.{_⊎_, inl, inr, ⊎-elim}
 use mathlib.Core.Option.{Option, none, some}
 use mathlib.Core.List.{List, [], _∷_, _++_, append-assoc}
 use Prim.Native.Nat.{ℕ, _+_, _≤_, _<_}
@@ -14,7 +15,7 @@ use Rattle.wire.specs.ByteLaws.{same-yes}
 use Rattle.eno.specs.Area.{synOption}
 use Rattle.eno.specs.Session.{inHand}
 use Rattle.eno.specs.Judge as judged
-use Rattle.eno.specs.Judge.{Way, fresh, resumed, wayIf, Judged, encrypt, judge}
+use Rattle.eno.specs.Judge.{Way, fresh, resumed, wayIf, Judged, encrypt, tooLong, judge}
 use Rattle.eno.specs.declared.SessionRecord.{SessionRecord}
 use Rattle.door.specs.Door.{Phase, idle, offering, crossed, answering, opened, unencrypted, phaseOf, ownOption, emptyHand, handOf, idleDoor, Seen}
 use Rattle.door.specs.Record.{recordAt}
@@ -38,6 +39,7 @@ use Rattle.unit.specs.Isolation.{idleView}
 use Rattle.unit.specs.Resumption.{one, isOpenNow, opensBy, opens, stores, no-more-than-stored}
 use Rattle.unit.specs.History.{seenAfter, doorAfter, toldAfter, doorThen, Since, after-one, since-now, since-more, told-is, own-is, along, since-first}
 use Rattle.unit.specs.declared.LinkUnit.{LinkUnit}
+use Rattle.unit.specs.Confirmed.{Confirmed, by-verdict, by-same-option, by-presence, second-same, presence-found}
 use Rattle.unit.specs.Results.{Names, result-names, resumed-by-record, resumed-secret, fresh-secret}
 
 -- the connection that is open at door d after the calls cs: one receive opened it, with this record in hand or none, and it is still that connection
@@ -51,6 +53,8 @@ pub record OpenedWith (d : ℕ) (cs : List Call) (hand : Option SessionRecord) :
   pub was : isOpenNow (doorAfter d before) ≡ false
   pub is : isOpenNow (doorThen d before (receive syn ack area)) ≡ true
   pub in-hand : inHand (doorThen d before (receive syn ack area) .hand) ≡ hand
+  -- what confirmed the connection: the verdict on this SYN, the same option again, or an ENO option in this non-SYN
+  pub confirmed : Confirmed (doorAfter d before) syn ack area
   -- ever since, the door's own data (phase, verdict, options, hand) have been what they are now
   pub still : Since (λ (e : Door). e ≡ doorAfter d cs) d cs before (receive syn ack area)
 
@@ -66,7 +70,7 @@ Dropped e = e .resumed ≡ false → inHand (e .hand) ≡ none
 data Move (d : Door) (q : Ask) (e : Door) : Type 0 where
   same : e ≡ d → Move d q e
   shut : isOpenNow e ≡ false → Backed e → Move d q e
-  opening-by : (syn ack : Bool) (area : List ℕ) → q ≡ receive syn ack area → isOpenNow d ≡ false → Backed e → Dropped e → Move d q e
+  opening-by : (syn ack : Bool) (area : List ℕ) → q ≡ receive syn ack area → isOpenNow d ≡ false → Backed e → Dropped e → Confirmed d syn ack area → Move d q e
 
 not-backed : (e : Door) → e .resumed ≡ false → Backed e
 not-backed e f t = absurd (true≢false (sym t ∙ f))
@@ -116,17 +120,26 @@ module _ (d : Door) (b : Backed d) (syn ack : Bool) (area : List ℕ) where
   abbrev this : Ask
   this = receive syn ack area
 
-  open-move : (e : Door) → isOpenNow d ≡ false → Backed e → Move d this (openDoor e)
-  open-move e f x = opening-by syn ack area refl f (open-backed e x) (open-dropped e)
+  open-move : (e : Door) → isOpenNow d ≡ false → Backed e → Confirmed d syn ack area → Move d this (openDoor e)
+  open-move e f x c = opening-by syn ack area refl f (open-backed e x) (open-dropped e) c
 
-  plain-or-move : (m : Option Cause) (e : Door) → Move d this e → Move d this (plainOr m e)
-  plain-or-move none e x = x
+  plain-or-move : (m : Option Cause) (e : Door) → (m ≡ none → Move d this e) → Move d this (plainOr m e)
+  plain-or-move none e x = x refl
   plain-or-move (some n) e x = plain-move d this n
 
-  judged-open : (j : Judged) → judge (d .mandatory) (inHand (d .hand)) (ownOption d) area ≡ j → isOpenNow d ≡ false → Move d this (afterJudging d opened (synOption area) j)
-  judged-open (judged.refuse n) e f = same refl
-  judged-open (judged.plain n) e f = plain-move d this n
-  judged-open (encrypt role byte way t) e f = open-move (judgedDoor d (synOption area) role byte way) f (judged-backed d area role byte way t e)
+  judged-open : (j : Judged) → judge (d .mandatory) (inHand (d .hand)) (ownOption d) area ≡ j → phaseOf (d .phase) ≡ offering → syn ≡ true → ack ≡ true → Move d this (afterJudging d opened (synOption area) j)
+  judged-open (judged.refuse n) e p s a = same refl
+  judged-open (judged.plain n) e p s a = plain-move d this n
+  judged-open (encrypt role byte way t) e p s a = open-move (judgedDoor d (synOption area) role byte way) (ap isOpen p) (judged-backed d area role byte way t e) (by-verdict p s a role byte way t e)
+
+  -- the same option again; an ENO option in a non-SYN
+  second-open : phaseOf (d .phase) ≡ crossed → syn ≡ true → ack ≡ true → Move d this (plainOr (secondReason d area) (openDoor d))
+  second-open p s a = plain-or-move (secondReason d area) (openDoor d) (λ n. open-move d (ap isOpen p) b (by-same-option p s a (second-same d area n)))
+
+  presence-open : (phaseOf (d .phase) ≡ crossed) ⊎ (phaseOf (d .phase) ≡ answering) → tooLong area ≡ false → syn ≡ false → ack ≡ true → Move d this (plainOr (presenceReason area) (openDoor d))
+  presence-open w fits s a =
+      plain-or-move (presenceReason area) (openDoor d)
+      (λ n. let x = presence-found area fits n in open-move d (⊎-elim (λ p. ap isOpen p) (λ p. ap isOpen p) w) b (by-presence w s a (x .start) (x .len) (x .found-is)))
 
   judged-crossed : (j : Judged) → judge (d .mandatory) (inHand (d .hand)) (ownOption d) area ≡ j → Move d this (afterJudging d crossed (synOption area) j)
   unfolding judgedDoor phaseOf
@@ -134,22 +147,22 @@ module _ (d : Door) (b : Backed d) (syn ack : Bool) (area : List ℕ) where
   judged-crossed (judged.plain n) e = plain-move d this n
   judged-crossed (encrypt role byte way t) e = shut refl (judged-backed d area role byte way t e)
 
-receive-move : (q : Phase) (syn ack : Bool) (d : Door) (area : List ℕ) → Backed d → phaseOf (d .phase) ≡ q → Move d (receive syn ack area) (received d (turn q syn ack) area)
+receive-move : (q : Phase) (syn ack : Bool) (d : Door) (area : List ℕ) → Backed d → tooLong area ≡ false → phaseOf (d .phase) ≡ q → Move d (receive syn ack area) (received d (turn q syn ack) area)
 unfolding turn received
-receive-move idle syn ack d area b e = same refl
-receive-move offering true true d area b e = judged-open d b true true area _ refl (ap isOpen e)
-receive-move offering true false d area b e = judged-crossed d b true false area _ refl
-receive-move offering false ack d area b e = same refl
-receive-move crossed true true d area b e = plain-or-move d b true true area (secondReason d area) (openDoor d) (open-move d b true true area d (ap isOpen e) b)
-receive-move crossed true false d area b e = same refl
-receive-move crossed false true d area b e = plain-or-move d b false true area (presenceReason area) (openDoor d) (open-move d b false true area d (ap isOpen e) b)
-receive-move crossed false false d area b e = same refl
-receive-move answering true true d area b e = same refl
-receive-move answering true false d area b e = plain-or-move d b true false area (secondReason d area) d (same refl)
-receive-move answering false true d area b e = plain-or-move d b false true area (presenceReason area) (openDoor d) (open-move d b false true area d (ap isOpen e) b)
-receive-move answering false false d area b e = same refl
-receive-move opened syn ack d area b e = same refl
-receive-move unencrypted syn ack d area b e = same refl
+receive-move idle syn ack d area b fits e = same refl
+receive-move offering true true d area b fits e = judged-open d b true true area _ refl e refl refl
+receive-move offering true false d area b fits e = judged-crossed d b true false area _ refl
+receive-move offering false ack d area b fits e = same refl
+receive-move crossed true true d area b fits e = second-open d b true true area e refl refl
+receive-move crossed true false d area b fits e = same refl
+receive-move crossed false true d area b fits e = presence-open d b false true area (inl e) fits refl refl
+receive-move crossed false false d area b fits e = same refl
+receive-move answering true true d area b fits e = same refl
+receive-move answering true false d area b fits e = plain-or-move d b true false area (secondReason d area) d (λ n. same refl)
+receive-move answering false true d area b fits e = presence-open d b false true area (inr e) fits refl refl
+receive-move answering false false d area b fits e = same refl
+receive-move opened syn ack d area b fits e = same refl
+receive-move unencrypted syn ack d area b fits e = same refl
 
 -- any call
 refused-move : (v : Seen) (q : Ask) (s : List ℕ) (x : Outcome) (n : ℕ) → Move (v .door) q (unless (some n) (v .door) s x .door)
@@ -164,7 +177,7 @@ moves v (answer area aware mandatory list nonce s) h =
     unless-law (λ x. Move (v .door) (answer area aware mandatory list nonce s) (x .door)) _ (v .door) s _ (refused-move v _ s _) (λ x. answer-move v _ aware mandatory _ nonce s _)
 moves v (receive syn ack area) h =
     unless-law (λ x. Move (v .door) (receive syn ack area) (x .door)) _ (v .door) [] _ (refused-move v _ [] _)
-    (λ x. receive-move (phaseOf (v .door .phase)) syn ack (v .door) area h refl)
+    (λ x. receive-move (phaseOf (v .door .phase)) syn ack (v .door) area h (x .0) refl)
 moves v (resend s) h = unless-law (λ x. Move (v .door) (resend s) (x .door)) _ (v .door) s _ (refused-move v _ s _) (λ x. same refl)
 moves v (result s) h = unless-law (λ x. Move (v .door) (result s) (x .door)) _ (v .door) s _ (refused-move v _ s _) (λ x. same refl)
 moves v close h = idle-move (v .door) close
@@ -182,6 +195,7 @@ record Opening (d : ℕ) (cs : List Call) (e : Door) : Type 0 where
   was : isOpenNow (doorAfter d before) ≡ false
   still : Since (λ (x : Door). x ≡ e) d cs before (receive syn ack area)
   dropped : Dropped e
+  confirmed : Confirmed (doorAfter d before) syn ack area
 
 record Kept (d : ℕ) (cs : List Call) (e : Door) : Type 0 where
   backed : Backed e
@@ -206,13 +220,14 @@ module _ (d : ℕ) (h : d < doorsN) where
             was = x .was;
             still = since-more (λ (y : Door). y ≡ e) d cs (x .before) (receive (x .syn) (x .ack) (x .area)) c q (x .still);
             dropped = x .dropped;
+            confirmed = x .confirmed;
           }
 
   -- each call keeps it
   moved : (cs : List Call) (a : Ask) (e : Door) → doorAfter d (cs ++ on d a ∷ []) ≡ e → Kept d cs (doorAfter d cs) → Move (doorAfter d cs) a e → Kept d (cs ++ on d a ∷ []) e
   moved cs a e q s (same p) = subst (Kept d (cs ++ on d a ∷ [])) (sym p) (same-kept cs (on d a) (doorAfter d cs) (q ∙ p) s)
   moved cs a e q s (shut f b) = record { backed = b; opening = λ t. absurd (true≢false (sym t ∙ f)) }
-  moved cs a e q s (opening-by syn ack area is f b x) =
+  moved cs a e q s (opening-by syn ack area is f b x c) =
       record {
         backed = b;
         opening =
@@ -225,6 +240,7 @@ module _ (d : ℕ) (h : d < doorsN) where
               was = f;
               still = subst (λ (y : Ask). Since (λ (z : Door). z ≡ e) d (cs ++ on d a ∷ []) cs y) is (since-now (λ (z : Door). z ≡ e) d cs a (sym (ap (λ (u : LinkUnit). view u d .door) (after-one emptyUnit cs (on d a))) ∙ q));
               dropped = x;
+              confirmed = c;
             };
       }
 
@@ -273,6 +289,7 @@ module _ (d : ℕ) (h : d < doorsN) (cs : List Call) (lent : List ℕ) (role byt
         was = x .was;
         is = ap (λ (y : Door). isOpenNow y) e ∙ t;
         in-hand = ap (λ (y : Door). inHand (y .hand)) e ∙ i;
+        confirmed = x .confirmed;
         still = x .still;
       }
 

@@ -1,15 +1,15 @@
 -- Demand 1 for the unit: a refusal changes no record, no door and no byte of a lent buffer, and is given exactly when document 01 says.
 use mathlib.Core.Path.{_≡_, refl, sym, ap, _∙_, subst}
 use mathlib.Core.Logic.{_↔_}
-use mathlib.Core.Bool.{Bool, true, false, cond, not}
-use mathlib.Core.List.{List, [], _∷_}
+use mathlib.Core.Bool.{Bool, true, false, not}
+use mathlib.Core.List.{List, []}
 use Prim.Native.Nat.{ℕ, _≤_, _<_}
 use native.Mathlib.Omega.{arith}
 use borrow.Author.Tests.{lt-ltb, le-ltb, ltb-true, ltb-false}
 use lib.Dec.{ltb}
-use lib.ListN.{length, set}
+use lib.ListN.{set}
 use lib.Seq.{set-getD}
-use Rattle.door.specs.Outcome.{Reply, refused, done, keep, Outcome}
+use Rattle.door.specs.Outcome.{refused, keep, Outcome}
 use Rattle.refusals.specs.Rows.{Least}
 use Rattle.door.specs.Numbered.{lentOf, applies}
 use Rattle.door.specs.Refusals.{AsFound, refusal-changes-nothing, refused-exactly}
@@ -17,7 +17,7 @@ use Rattle.door.specs.Calls.{Ask, outcome}
 use Rattle.door.specs.declared.Door.{Door}
 use Rattle.unit.specs.Numbers.{doorsN}
 use Rattle.unit.specs.Unit.{emptyUnit, pastPosition, positionAt, view, isFree, ownersAfter, rowsAfter, positionAfter, enact}
-use Rattle.unit.specs.Run.{Call, on, erase, Told, Step, carried, stepOn, step, after}
+use Rattle.unit.specs.Run.{Call, on, erase, Told, carried, stepOn, step, after}
 use Rattle.unit.specs.Invariant.{Inv, empty-inv}
 use Rattle.unit.specs.Isolation.{inv-after, told-own}
 use Rattle.unit.specs.declared.Position.{Position}
@@ -60,28 +60,51 @@ unfolding step
 refusal-leaves u erase n e = let z : _≡_ {A = ℕ} 0 1 = cc in absurd (omega arith)
 refusal-leaves u (on d a) n e = let f = step-as-found (ltb d doorsN) u d a n e in record { unit = f .0; buffer = f .1 }
 
--- number 1 applies to a door that is not ours; at every unit that calls reach from the empty one the other numbers apply as a door's do
-pub data LeastOf (u : LinkUnit) (d : ℕ) (a : Ask) : ℕ → Type 0 where
-  no-door : doorsN ≤ d → LeastOf u d a 1
-  of-door : {n : ℕ} → d < doorsN → Least (applies true (view u d) a) n → LeastOf u d a n
+-- number 1 applies to a door that is not ours, the other numbers as a door's do; `free` says whether a row of the pool is free
+pub data LeastWith (free : Bool) (u : LinkUnit) (d : ℕ) (a : Ask) : ℕ → Type 0 where
+  no-door : doorsN ≤ d → LeastWith free u d a 1
+  of-door : {n : ℕ} → d < doorsN → Least (applies free (view u d) a) n → LeastWith free u d a n
 
-reached-exactly : (b : Bool) (u : LinkUnit) (d : ℕ) (a : Ask) (n : ℕ) → ltb d doorsN ≡ b → Inv u → step u (on d a) .told .reply ≡ refused n → LeastOf u d a n
-unfolding step stepOn
-reached-exactly true u d a n q s e =
-    let h = ltb-true d doorsN q in
-    of-door h (refused-exactly true (view u d) a n .0 (sym (ap (λ (t : Told). t .reply) (told-own u d s h a)) ∙ e))
-reached-exactly false u d a n q s e =
+any-reply : (b : Bool) (u : LinkUnit) (d : ℕ) (a : Ask) (n : ℕ) → ltb d doorsN ≡ b → step u (on d a) .told .reply ≡ refused n → LeastWith (isFree u) u d a n
+unfolding step stepOn carried
+any-reply true u d a n q e =
+    let f : outcome (isFree u) (view u d) a .reply ≡ refused n = sym (rw q) ∙ e in
+    of-door (ltb-true d doorsN q) (refused-exactly (isFree u) (view u d) a n .0 f)
+any-reply false u d a n q e =
     let f : refused 1 ≡ refused n = sym (rw q) ∙ e in
     let m : 1 ≡ n = cc in
-    subst (LeastOf u d a) m (no-door (ltb-false d doorsN q))
+    subst (LeastWith (isFree u) u d a) m (no-door (ltb-false d doorsN q))
 
-exactly-reached : (u : LinkUnit) (d : ℕ) (a : Ask) (n : ℕ) → Inv u → LeastOf u d a n → step u (on d a) .told .reply ≡ refused n
-unfolding step stepOn
-exactly-reached u d a n s (no-door h) = rw (le-ltb d doorsN h)
-exactly-reached u d a n s (of-door h l) = ap (λ (t : Told). t .reply) (told-own u d s h a) ∙ refused-exactly true (view u d) a n .1 l
+any-least : (u : LinkUnit) (d : ℕ) (a : Ask) (n : ℕ) → LeastWith (isFree u) u d a n → step u (on d a) .told .reply ≡ refused n
+unfolding step stepOn carried
+any-least u d a n (no-door h) = rw (le-ltb d doorsN h)
+any-least u d a n (of-door h l) = rw (lt-ltb d doorsN h) (refused-exactly (isFree u) (view u d) a n .1 l)
+
+-- for every unit value: a reply is `refused n` exactly when n is the least number that applies
+pub refused-exactly-any : (u : LinkUnit) (d : ℕ) (a : Ask) (n : ℕ) → (step u (on d a) .told .reply ≡ refused n) ↔ LeastWith (isFree u) u d a n
+refused-exactly-any u d a n = (λ e. any-reply (ltb d doorsN) u d a n refl e, λ l. any-least u d a n l)
+
+-- at every unit that calls reach from the empty one the numbers apply as if a row were free: one is, whenever the door holds fewer than the most
+abbrev pub LeastOf : LinkUnit → ℕ → Ask → ℕ → Type 0
+LeastOf u d a n = LeastWith true u d a n
+
+own-reply : (u : LinkUnit) (d : ℕ) → Inv u → d < doorsN → (a : Ask) → outcome (isFree u) (view u d) a .reply ≡ outcome true (view u d) a .reply
+unfolding step stepOn carried
+own-reply u d s h a = sym (rw (lt-ltb d doorsN h)) ∙ ap (λ (t : Told). t .reply) (told-own u d s h a)
+
+-- so free or not is one at such a unit
+least-one : (u : LinkUnit) (d : ℕ) (a : Ask) (n : ℕ) → Inv u → LeastWith (isFree u) u d a n → LeastOf u d a n
+least-one u d a n s (no-door h) = no-door h
+least-one u d a n s (of-door h l) = of-door h (refused-exactly true (view u d) a n .0 (sym (own-reply u d s h a) ∙ refused-exactly (isFree u) (view u d) a n .1 l))
+
+one-least : (u : LinkUnit) (d : ℕ) (a : Ask) (n : ℕ) → Inv u → LeastOf u d a n → LeastWith (isFree u) u d a n
+one-least u d a n s (no-door h) = no-door h
+one-least u d a n s (of-door h l) = of-door h (refused-exactly (isFree u) (view u d) a n .0 (own-reply u d s h a ∙ refused-exactly true (view u d) a n .1 l))
 
 -- a reply is `refused n` exactly when n is the least number that applies
 pub refused-exactly-when : (cs : List Call) (d : ℕ) (a : Ask) (n : ℕ) → (step (after emptyUnit cs) (on d a) .told .reply ≡ refused n) ↔ LeastOf (after emptyUnit cs) d a n
 refused-exactly-when cs d a n =
+    let u = after emptyUnit cs in
     let s = inv-after emptyUnit empty-inv cs in
-    (λ e. reached-exactly (ltb d doorsN) (after emptyUnit cs) d a n refl s e, λ l. exactly-reached (after emptyUnit cs) d a n s l)
+    let x = refused-exactly-any u d a n in
+    (λ e. least-one u d a n s (x .0 e), λ l. x .1 (one-least u d a n s l))

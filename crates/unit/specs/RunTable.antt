@@ -33,6 +33,7 @@ use Rattle.unit.specs.Unit.{idlePosition, emptyUnit, positionAt, mine, r
 use Rattle.unit.specs.Run.{Call, on, erase, carried, stepOn, step, after, moment, moments}
 use Rattle.unit.specs.Resumption.{acceptedBy, opens, stores}
 use Rattle.unit.specs.Entries.{stored, taken, entry, less, standing}
+use Rattle.unit.specs.Seen.{exchangesFrom, exchanges, resumptionIn, sentFor, halfFor, lessResumed, recordsAfter, ledgerSeen, hasSaid, resumedSeen, storesSeen}
 use Rattle.unit.specs.Ledger.{entered, entriesAfter, entriesFrom, entries, ledger}
 use Rattle.unit.specs.declared.LinkUnit.{LinkUnit}
 
@@ -141,6 +142,22 @@ storedOnce =
     ∷ on 3 (result (room 8))
     ∷ []
 
+-- R stored twice at door 3, offered after each store, and each resumed connection asked twice for its result
+unfoldable pub resumedTwice : List Call
+resumedTwice =
+    on 3 storeR
+    ∷ on 3 (offerK1 true 13)
+    ∷ on 3 (synAck resumingB)
+    ∷ on 3 (result (room 26))
+    ∷ on 3 (result (room 26))
+    ∷ on 3 close
+    ∷ on 3 storeR
+    ∷ on 3 (offerK1 true 13)
+    ∷ on 3 (synAck resumingB)
+    ∷ on 3 (result (room 26))
+    ∷ on 3 (result (room 26))
+    ∷ []
+
 -- a row that door 5 frees, while door 7 holds the next one, is the one that door 0 takes
 unfoldable pub untilFreed : List Call
 untilFreed = on 5 storeR ∷ on 7 storeR ∷ on 5 forgetR ∷ []
@@ -236,6 +253,21 @@ unfolding storedOnce entered entriesAfter entriesFrom entries entry less standin
     idleDoor firstThat recordAt isSession refusal firstCause unless termsFit offeredAt offeredDoor offer-spec.offer
     turn openDoor judgedDoor secondReason presenceReason received secretOf receive-spec.receive receive-spec.resend receive-spec.result receive-spec.close isHeld isRecord records-spec.store records-spec.forget records-spec.count
 opened-once = (refl, refl, refl, refl, refl)
+
+-- by what the host sees: two connections said resumed, each counted once, of two stores; R is held until the offer takes it
+pub seen-twice :
+    (resumedSeen (sameBytes secretR) 3 (exchanges resumedTwice) ≡ 2)
+    × (storesSeen isR 3 (exchanges resumedTwice) ≡ 2)
+    × (ledgerSeen 3 (exchanges (take 1 resumedTwice)) ≡ sessionR ∷ [])
+    × (ledgerSeen 3 (exchanges (take 2 resumedTwice)) ≡ [])
+    × (ledgerSeen 3 (exchanges (take 7 resumedTwice)) ≡ sessionR ∷ [])
+unfolding resumedTwice exchangesFrom exchanges hasSaid resumedSeen storesSeen resumptionIn sentFor halfFor lessResumed recordsAfter ledgerSeen acceptedBy less doorsN rowsN idlePosition emptyUnit recordsAt orNext firstFree ownersAfter rowsAfter positionAfter enact carried stepOn step outcome cut effected
+    part pasted sameBytes items itemsOf optionAt options enos choose chosen finding partOf synOption suboptionAt suboptions isIllFormed
+    globals globalByte roleBit awareBit teps isKnown sentHalf expectedHalf inHand isFresh isBad isResumption halfOf matches named once ofA ofB wayOf wayOfBoth tepsOf validity lastValid agreed negotiate firstOf roleOf awareOf judge
+    encode encodeAll optionWith globalOf globalPart freshPart resumptionPart without isListed freshTeps lastPart offered answered knownOnce isTepList eachN phaseOf kept ownOption peerOption transcriptOf noSession emptyHand handOf
+    idleDoor firstThat recordAt isSession refusal firstCause unless termsFit offeredAt offeredDoor offer-spec.offer
+    turn openDoor judgedDoor secondReason presenceReason received secretOf receive-spec.receive receive-spec.resend receive-spec.result receive-spec.close isHeld isRecord records-spec.store records-spec.forget records-spec.count
+seen-twice = (refl, refl, refl, refl, refl)
 
 -- the row that door 5 lists first, and the owners of rows 0, 1 and 2 before and after door 0 takes it: 0 is nobody, d + 1 door d
 pub freed-row :

@@ -606,3 +606,8 @@ module _ (d : ℕ) (h : d < doorsN) where
 
   pub door-story : (cs : List Call) → Story d cs (doorAfter d cs)
   door-story cs = kept cs .story
+
+  -- each record that a door holds has an identifier of 18 bytes
+  pub held-whole : (cs : List Call) → Every (λ (x : SessionRecord). length (x .identifier) ≡ 18) (seenAfter d cs .held)
+  unfolding AllWhole
+  held-whole cs = kept cs .whole

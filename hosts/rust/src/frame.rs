@@ -1,5 +1,7 @@
 //! Frames (RFC 8548, 3.6, 3.7 and 4.2): headers, frame IDs, nonces, plaintexts. Ciphering is the host's.
 
+use core::fmt;
+
 use crate::reply::{flag, read, refusal, Told};
 use crate::{ffi, Error};
 
@@ -23,8 +25,14 @@ pub struct Header {
     pub associated: [u8; HEADER],
 }
 
-/// A plaintext as received.
-#[derive(Clone, Copy, PartialEq, Eq, Debug)]
+/// A plaintext as received. [`Debug`](fmt::Debug) shows how many bytes of data there are, and not the data.
+///
+/// ```
+/// let read = door_link::read_plaintext(b"\x00open the doors")?;
+/// assert_eq!(format!("{read:?}"), "Plaintext { fin: false, urgent: None, data: 14 bytes }");
+/// # Ok::<(), door_link::Error>(())
+/// ```
+#[derive(Clone, Copy, PartialEq, Eq)]
 pub struct Plaintext<'a> {
     /// FINp: nothing follows in this direction.
     pub fin: bool,
@@ -32,6 +40,16 @@ pub struct Plaintext<'a> {
     pub urgent: Option<u16>,
     /// The data, a part of the bytes that were read.
     pub data: &'a [u8],
+}
+
+impl fmt::Debug for Plaintext<'_> {
+    fn fmt(&self, f: &mut fmt::Formatter<'_>) -> fmt::Result {
+        f.debug_struct("Plaintext")
+            .field("fin", &self.fin)
+            .field("urgent", &self.urgent)
+            .field("data", &format_args!("{} bytes", self.data.len()))
+            .finish()
+    }
 }
 
 /// The offset at which the next frame begins, after a frame at `offset` whose ciphertext has `length` bytes.
@@ -105,9 +123,7 @@ pub fn frame_id(offset: u64) -> [u8; FRAME_NONCE] {
     ffi::frame::frame_id(offset).bytes
 }
 
-/// The nonce of the frame that begins at `offset`: its frame ID XOR the fixed nonce of its direction, 12 bytes.
-///
-/// Refused: 3 where `fixed` has another length.
+/// The nonce of the frame that begins at `offset`: its frame ID XOR the fixed nonce of its generation and direction. Never refused.
 ///
 /// ```
 /// let nonce = door_link::nonce(&[0xff; 12], 75);
@@ -115,7 +131,13 @@ pub fn frame_id(offset: u64) -> [u8; FRAME_NONCE] {
 /// assert_eq!(nonce, Ok(expected));
 /// ```
 #[inline]
-pub fn nonce(fixed: &[u8], offset: u64) -> Result<[u8; FRAME_NONCE], Error> {
+pub fn nonce(fixed: &[u8; FRAME_NONCE], offset: u64) -> Result<[u8; FRAME_NONCE], Error> {
+    nonce_of(fixed, offset)
+}
+
+/// As [`nonce`](crate::nonce). Refused with 3 where `fixed` has not 12 bytes.
+#[inline]
+pub fn nonce_of(fixed: &[u8], offset: u64) -> Result<[u8; FRAME_NONCE], Error> {
     made(&ffi::frame::nonce(fixed, offset))
 }
 

@@ -11,8 +11,12 @@ use crate::{ffi, Error};
 /// let mut generations = Generations::new()?;
 /// assert_eq!(generations.send(false)?, Sent { generation: 0, rekey: false });
 ///
-/// // A frame with the rekey bit is received: a frame with it is owed.
-/// assert_eq!(generations.receive(true)?, 1);
+/// // A frame with the rekey bit comes. Its tag is tested with the keys of its generation: only then does the step count, and a frame with the bit is owed.
+/// let received = generations.receive(true)?;
+/// assert_eq!(received.generation(), 1);
+/// drop(received); // a bad tag: the record is as before
+/// assert!(!generations.is_owed()?);
+/// generations.receive(true)?.accept();
 /// assert!(generations.is_owed()?);
 /// assert_eq!(generations.initiate(true, false), Err(Error::Refused(Refusal::OutOfTurn)));
 /// assert_eq!(generations.send(true)?, Sent { generation: 1, rekey: true });
@@ -20,7 +24,7 @@ use crate::{ffi, Error};
 /// assert_eq!(generations.send(false), Err(Error::Refused(Refusal::Finished)));
 ///
 /// // After FINp this end still follows, and owes nothing.
-/// assert_eq!(generations.receive(true)?, 2);
+/// assert_eq!(generations.receive(true)?.accept(), 2);
 /// assert_eq!(generations, Generations { local: 2, remote: 2, last: 1, fin: true });
 /// assert!(!generations.is_owed()?);
 /// assert_eq!(generations.initiate(true, false), Err(Error::Refused(Refusal::Finished)));
@@ -46,6 +50,30 @@ pub struct Sent {
     pub generation: u16,
     /// Its rekey bit.
     pub rekey: bool,
+}
+
+/// A frame that came and whose tag is not known yet: [`accept`](Received::accept) it, or drop it.
+#[derive(PartialEq, Eq, Debug)]
+#[must_use = "the record changes only when the frame is accepted"]
+pub struct Received<'a> {
+    record: &'a mut Generations,
+    next: Generations,
+    generation: u16,
+}
+
+impl Received<'_> {
+    /// The generation whose key opens the frame.
+    #[inline]
+    pub const fn generation(&self) -> u16 {
+        self.generation
+    }
+
+    /// The tag was good: the record goes on. Gives the frame's generation.
+    #[inline]
+    pub fn accept(self) -> u16 {
+        *self.record = self.next;
+        self.generation
+    }
 }
 
 impl Generations {
@@ -75,14 +103,18 @@ impl Generations {
         Ok(sent)
     }
 
-    /// A frame was received, with the rekey bit or without; gives the generation whose key opens it.
+    /// A frame came, with the rekey bit or without. What it gives says which generation's key opens the frame; the record changes once that is
+    /// [accepted](Received::accept), which the host does when the tag was good. Dropped, it leaves the record as it was.
     ///
     /// Refused: 13.
     #[inline]
-    pub fn receive(&mut self, rekey: bool) -> Result<u16, Error> {
+    pub fn receive(&mut self, rekey: bool) -> Result<Received<'_>, Error> {
         let (next, generation) = received(&ffi::generation::receive_frame(*self, rekey), *self)?;
-        *self = next;
-        Ok(generation)
+        Ok(Received {
+            record: self,
+            next,
+            generation,
+        })
     }
 
     /// Whether a rekey frame is owed: `local` is above `last`, and FINp was not sent. Never refused.
@@ -214,6 +246,20 @@ mod tests {
         let other = Generations { last: 2, ..BEFORE };
         assert_eq!(sent(&numbers(0, 14, 0), other), Err(Error::Unexpected));
         assert_eq!(received(&numbers(0, 14, 0), other), Err(Error::Unexpected));
+    }
+
+    /// The record changes where a frame is accepted, and not before.
+    #[test]
+    fn received_and_dropped() {
+        let mut record = Generations::default();
+        for rekey in [false, true] {
+            let before = record;
+            let generation = u16::from(rekey);
+            let told = record.receive(rekey).map(|received| received.generation());
+            assert_eq!((told, record), (Ok(generation), before));
+            let told = record.receive(rekey).map(Received::accept);
+            assert_eq!((told, record.remote), (Ok(generation), generation));
+        }
     }
 
     #[test]

@@ -1,7 +1,7 @@
 //! Init1 and Init2, the messages in which two ends agree on fresh keys (RFC 8548, 4.1), for Curve25519 and Curve448.
 
 use crate::reply::{read, refusal, Told};
-use crate::{ffi, tep, Error};
+use crate::{ffi, Error, Tep};
 
 /// Bytes of an Init message's nonce.
 pub const INIT_NONCE: usize = 32;
@@ -76,9 +76,9 @@ impl Init {
 
 /// The length of a TEP's public key, where Init messages are the library's.
 const fn key_length(tep: u8) -> Option<usize> {
-    match tep {
-        tep::CURVE25519 => Some(32),
-        tep::CURVE448 => Some(INIT_KEY),
+    match Tep::of(tep) {
+        Some(Tep::Curve25519) => Some(32),
+        Some(Tep::Curve448) => Some(INIT_KEY),
         _ => None,
     }
 }
@@ -115,27 +115,27 @@ fn init(numbers: &ffi::init::InitNumbers, tep: u8, room: usize) -> Result<Init, 
     }
 }
 
-/// Writes an Init1, host A's message, and gives its length: 41 bytes, two for each cipher, and the key. `tep` is without v, and is
-/// [`tep::CURVE25519`] with a key of 32 bytes or [`tep::CURVE448`] with one of 56; `ciphers` is the list from which host B takes the first
-/// that it has enabled; `nonce` has 32 bytes.
+/// Writes an Init1, host A's message, and gives its length: 41 bytes, two for each cipher, and the key. `tep` is
+/// [`Tep::Curve25519`] with a key of 32 bytes or [`Tep::Curve448`] with one of 56; `ciphers` is the list from which host B takes the first
+/// that it has enabled; `nonce` is fresh.
 ///
-/// Refused: 3 where `tep` is another, a length does not fit, or `ciphers` has more than 255; 5.
+/// Refused: 3 where `tep` is another, the key's length does not fit, or `ciphers` has more than 255; 5.
 ///
 /// ```
-/// use door_link::{cipher, init1_read, init1_write, tep, Enabled, Error, Refusal};
+/// use door_link::{cipher, init1_read, init1_write, Enabled, Error, Refusal, Tep};
 /// # fn main() -> Result<(), Error> {
 /// let mut message = [0; 80];
 /// let (nonce, key) = ([1; 32], [2; 32]);
 /// let ciphers = [cipher::CHACHA20, cipher::AES128];
-/// let length = init1_write(tep::CURVE25519, &ciphers, &nonce, &key, &mut message)?;
+/// let length = init1_write(Tep::Curve25519, &ciphers, &nonce, &key, &mut message)?;
 /// assert_eq!(length, 77);
 /// assert_eq!(message[..13], [0x15, 0x10, 0x1a, 0x0e, 0, 0, 0, 77, 2, 0, 0x10, 0, 1]);
 ///
 /// // Host B reads as the bytes come in: 9 says that more are needed.
 /// let enabled = Enabled { aes128: true, aes256: true, chacha20: false };
-/// let part = init1_read(tep::CURVE25519, enabled, &message[..40]);
+/// let part = init1_read(Tep::Curve25519, enabled, &message[..40]);
 /// assert_eq!(part, Err(Error::Refused(Refusal::Incomplete)));
-/// let init = init1_read(tep::CURVE25519, enabled, &message)?;
+/// let init = init1_read(Tep::Curve25519, enabled, &message)?;
 /// assert_eq!((init.cipher(), init.count(), init.length()), (cipher::AES128, 2, 77));
 /// assert_eq!((init.nonce(), init.key()), (&nonce, &key[..]));
 /// # Ok(())
@@ -143,6 +143,18 @@ fn init(numbers: &ffi::init::InitNumbers, tep: u8, room: usize) -> Result<Init, 
 /// ```
 #[inline]
 pub fn init1_write(
+    tep: Tep,
+    ciphers: &[u16],
+    nonce: &[u8; INIT_NONCE],
+    key: &[u8],
+    out: &mut [u8],
+) -> Result<usize, Error> {
+    write1(tep.number(), ciphers, nonce, key, out)
+}
+
+/// As [`init1_write`](crate::init1_write). Refused with 3 also where `nonce` has not 32 bytes.
+#[inline]
+pub fn write1(
     tep: u8,
     ciphers: &[u16],
     nonce: &[u8],
@@ -155,25 +167,37 @@ pub fn init1_write(
 
 /// Writes an Init2, host B's message, and gives its length: 42 bytes and the key. `cipher` is the one that was taken from the Init1.
 ///
-/// Refused: 3 where `tep` is another than the two of [`init1_write`], or a length does not fit; 5.
+/// Refused: 3 where `tep` is another than the two of [`init1_write`], or the key's length does not fit; 5.
 ///
 /// ```
-/// use door_link::{cipher, init2_read, init2_write, tep, Error, Refusal};
+/// use door_link::{cipher, init2_read, init2_write, Error, Refusal, Tep};
 /// # fn main() -> Result<(), Error> {
 /// let mut message = [0; 98];
-/// let length = init2_write(tep::CURVE448, cipher::AES128, &[3; 32], &[4; 56], &mut message)?;
+/// let length = init2_write(Tep::Curve448, cipher::AES128, &[3; 32], &[4; 56], &mut message)?;
 /// assert_eq!(length, 98);
 ///
 /// // Host A takes a cipher that stands in its own Init1.
 /// let own = [cipher::CHACHA20, cipher::AES128];
-/// assert_eq!(init2_read(tep::CURVE448, &own, &message)?.cipher(), cipher::AES128);
-/// let other = init2_read(tep::CURVE448, &own[..1], &message);
+/// assert_eq!(init2_read(Tep::Curve448, &own, &message)?.cipher(), cipher::AES128);
+/// let other = init2_read(Tep::Curve448, &own[..1], &message);
 /// assert_eq!(other, Err(Error::Refused(Refusal::NoCipher)));
 /// # Ok(())
 /// # }
 /// ```
 #[inline]
 pub fn init2_write(
+    tep: Tep,
+    cipher: u16,
+    nonce: &[u8; INIT_NONCE],
+    key: &[u8],
+    out: &mut [u8],
+) -> Result<usize, Error> {
+    write2(tep.number(), cipher, nonce, key, out)
+}
+
+/// As [`init2_write`](crate::init2_write). Refused with 3 also where `nonce` has not 32 bytes.
+#[inline]
+pub fn write2(
     tep: u8,
     cipher: u16,
     nonce: &[u8],
@@ -189,7 +213,13 @@ pub fn init2_write(
 /// Refused: 3 where `tep` is another than the two of [`init1_write`]; 8 where no continuation of `bytes` is readable (another magic, a length above
 /// 4,096 or too short for the fields); 9 where some continuation is; 10 where no listed cipher is enabled, once all of the message is there.
 #[inline]
-pub fn init1_read(tep: u8, enabled: Enabled, bytes: &[u8]) -> Result<Init, Error> {
+pub fn init1_read(tep: Tep, enabled: Enabled, bytes: &[u8]) -> Result<Init, Error> {
+    read1(tep.number(), enabled, bytes)
+}
+
+/// As [`init1_read`](crate::init1_read).
+#[inline]
+pub fn read1(tep: u8, enabled: Enabled, bytes: &[u8]) -> Result<Init, Error> {
     init(
         &ffi::init::init1_read(tep, enabled, bytes),
         tep,
@@ -202,7 +232,13 @@ pub fn init1_read(tep: u8, enabled: Enabled, bytes: &[u8]) -> Result<Init, Error
 /// Refused: 3 where `tep` is another than the two of [`init1_write`], or `own` has more than 255 ciphers; 8 and 9 as for [`init1_read`]; 10 where the
 /// message's cipher is not in `own`, once all of the message is there.
 #[inline]
-pub fn init2_read(tep: u8, own: &[u16], bytes: &[u8]) -> Result<Init, Error> {
+pub fn init2_read(tep: Tep, own: &[u16], bytes: &[u8]) -> Result<Init, Error> {
+    read2(tep.number(), own, bytes)
+}
+
+/// As [`init2_read`](crate::init2_read).
+#[inline]
+pub fn read2(tep: u8, own: &[u16], bytes: &[u8]) -> Result<Init, Error> {
     init(&ffi::init::init2_read(tep, own, bytes), tep, bytes.len())
 }
 
@@ -270,17 +306,17 @@ mod tests {
             }
         }
         let out = &mut [][..];
-        let written = init1_write(0x23, &[], &[0; 32], &[0; 32], out);
+        let written = write1(0x23, &[], &[0; 32], &[0; 32], out);
         assert_eq!(number(written), Some(Refusal::NoRoom));
-        let written = init1_write(0x23, &[], &[], &[], out);
+        let written = write1(0x23, &[], &[], &[], out);
         assert_eq!(number(written), Some(Refusal::Unfit));
-        let written = init2_write(0x23, 1, &[], &[], out);
+        let written = write2(0x23, 1, &[], &[], out);
         assert_eq!(number(written), Some(Refusal::Unfit));
-        let read = init1_read(0x23, Enabled::default(), &[]);
+        let read = read1(0x23, Enabled::default(), &[]);
         assert_eq!(number(read), Some(Refusal::Incomplete));
-        let read = init2_read(0x24, &[], &[]);
+        let read = read2(0x24, &[], &[]);
         assert_eq!(number(read), Some(Refusal::Incomplete));
-        let read = init2_read(0x22, &[], &[]);
+        let read = read2(0x22, &[], &[]);
         assert_eq!(number(read), Some(Refusal::Unfit));
     }
 }

@@ -3,17 +3,28 @@
 use core::fmt;
 
 use crate::reply::Told;
-use crate::{ffi, Error, Reason, Role, IDENTIFIER, TRANSCRIPT};
+use crate::{ffi, untyped, Error, Reason, Role, Tep, IDENTIFIER, TRANSCRIPT};
 
-/// The session record that an end has in hand when it judges. The secret plays no part, so it is not asked for.
-#[derive(Clone, Copy, PartialEq, Eq, Debug)]
+/// The session record that an end has in hand when it judges. The secret plays no part, so it is not asked for. [`Debug`](fmt::Debug) does not show the
+/// identifier, half of which names the session to whoever would resume it.
+#[derive(Clone, Copy, PartialEq, Eq)]
 pub struct InHand {
-    /// The TEP, without v.
-    pub tep: u8,
-    /// The end's role in the connection that made the session, [`Role::number`]; any other number than 0 reads as host B.
-    pub role: u8,
+    /// The TEP.
+    pub tep: Tep,
+    /// The end's role in the connection that made the session.
+    pub role: Role,
     /// Host A sends the first nine bytes, host B the last nine.
     pub identifier: [u8; IDENTIFIER],
+}
+
+impl fmt::Debug for InHand {
+    fn fmt(&self, f: &mut fmt::Formatter<'_>) -> fmt::Result {
+        let (tep, role) = (&self.tep, &self.role);
+        f.debug_struct("InHand")
+            .field("tep", tep)
+            .field("role", role)
+            .finish_non_exhaustive()
+    }
 }
 
 /// Host A's ENO option, then host B's.
@@ -44,8 +55,10 @@ pub enum Judgement {
     Encrypted {
         /// The role of the end that judges.
         role: Role,
-        /// The TEP byte as host B sent it, with the bit v (0x80).
-        tep: u8,
+        /// The TEP.
+        tep: Tep,
+        /// The TEP byte as host B sent it, perhaps with the bit v (0x80).
+        byte: u8,
         /// Whether the session in hand is resumed.
         resumed: bool,
         /// Host A's option, then host B's.
@@ -61,10 +74,10 @@ pub enum Judgement {
 /// Refused: 2.
 ///
 /// ```
-/// use door_link::{judge, InHand, Judgement, Reason, Role};
+/// use door_link::{judge, InHand, Judgement, Reason, Role, Tep};
 /// # fn main() -> Result<(), door_link::Error> {
 /// let fresh = judge(&[0x45, 4, 0x21, 0x23], &[1, 0x45, 4, 0x01, 0x23], false, None)?;
-/// let Judgement::Encrypted { role: Role::A, tep: 0x23, resumed: false, transcript } = fresh else {
+/// let Judgement::Encrypted { role: Role::A, tep: Tep::Curve25519, resumed: false, transcript, .. } = fresh else {
 ///     unreachable!("both sent Curve25519");
 /// };
 /// assert_eq!(transcript.bytes(), [0x45, 4, 0x21, 0x23, 0x45, 4, 0x01, 0x23]);
@@ -75,11 +88,11 @@ pub enum Judgement {
 /// let broken = judge(&[0x45, 3, 0x23], &[0x45, 3, 0x23, 2], false, None)?;
 /// assert_eq!(broken, Judgement::Plain(Reason::Unreadable { place: 3, kind: 2 }));
 ///
-/// let hand = InHand { tep: 0x23, role: Role::A.number(), identifier: [7; 18] };
+/// let hand = InHand { tep: Tep::Curve25519, role: Role::A, identifier: [7; 18] };
 /// let own = [0x45, 12, 0xa3, 7, 7, 7, 7, 7, 7, 7, 7, 7];
 /// let peer = [0x45, 13, 1, 0xa3, 7, 7, 7, 7, 7, 7, 7, 7, 7];
 /// let resumed = judge(&own, &peer, false, Some(&hand))?;
-/// assert!(matches!(resumed, Judgement::Encrypted { tep: 0xa3, resumed: true, .. }));
+/// assert!(matches!(resumed, Judgement::Encrypted { byte: 0xa3, resumed: true, .. }));
 /// # Ok(())
 /// # }
 /// ```
@@ -89,6 +102,22 @@ pub fn judge(
     peer: &[u8],
     mandatory: bool,
     hand: Option<&InHand>,
+) -> Result<Judgement, Error> {
+    let hand = hand.map(|hand| untyped::InHand {
+        tep: hand.tep.number(),
+        role: hand.role.number(),
+        identifier: hand.identifier,
+    });
+    judge_of(own, peer, mandatory, hand.as_ref())
+}
+
+/// As [`judge`](crate::judge).
+#[inline]
+pub fn judge_of(
+    own: &[u8],
+    peer: &[u8],
+    mandatory: bool,
+    hand: Option<&untyped::InHand>,
 ) -> Result<Judgement, Error> {
     judgement(&ffi::judge::judge(own, peer, mandatory, hand))
 }
@@ -110,7 +139,8 @@ fn judgement(numbers: &ffi::judge::JudgementNumbers) -> Result<Judgement, Error>
             role, tep, resumed, ..
         } => Ok(Judgement::Encrypted {
             role,
-            tep,
+            tep: Tep::of(tep & 0x7f).ok_or(Error::Unexpected)?,
+            byte: tep,
             resumed,
             transcript: Transcript {
                 bytes: numbers.transcript,
@@ -148,6 +178,22 @@ mod tests {
     }
 
     #[test]
+    fn no_identifier_is_shown() {
+        let hand = InHand {
+            tep: Tep::P521,
+            role: Role::B,
+            identifier: [0xab; IDENTIFIER],
+        };
+        assert_eq!(format!("{hand:?}"), "InHand { tep: P521, role: B, .. }");
+        let hand = untyped::InHand {
+            tep: 0x22,
+            role: 1,
+            identifier: [0xab; IDENTIFIER],
+        };
+        assert_eq!(format!("{hand:?}"), "InHand { tep: 34, role: 1, .. }");
+    }
+
+    #[test]
     fn numbers_that_the_header_has_not() {
         let none = TRANSCRIPT;
         assert!(of(4, 80, 0x23, 79).is_ok());
@@ -160,6 +206,7 @@ mod tests {
         for (kind, number, tep, byte) in [
             (4, 81, 0x23, none),
             (4, 7, 0x23, 7),
+            (4, 7, 0x25, none),
             (2, 1, 0, none),
             (2, 6, 0, 0),
             (2, 7, 0, none),

@@ -9,6 +9,7 @@
 //! | frames | [`write_header`], [`read_header`], [`next_offset`], [`frame_id`], [`nonce`], [`write_plaintext`], [`read_plaintext`] |
 //! | generations | [`Generations`], a method for each step |
 //! | captures and diagnosis | [`find_status`], [`judge`] |
+//! | arguments as numbers and slices | [`untyped`] |
 //!
 //! No call panics. A call that is refused leaves the unit or the record and the lent buffer as found; beyond the bytes that a call reports as written,
 //! a lent buffer stays as it was. Every number, length and byte is allowed in every argument. A call of the unit needs less than 4 KB of stack.
@@ -16,7 +17,7 @@
 //! # A fresh connection
 //!
 //! ```
-//! use door_link::{tep, Answer, LinkUnit, Offer, Outcome, Phase, Reply, Role, Way, OPTION, TRANSCRIPT};
+//! use door_link::{Answer, LinkUnit, Offer, Outcome, Phase, Reply, Role, Tep, Way, ACK_OPTION, OPTION, TRANSCRIPT};
 //! # fn main() -> Result<(), door_link::Error> {
 //! let (mut active, mut passive) = (LinkUnit::new(), LinkUnit::new());
 //! let (mut syn, mut syn_ack) = ([0; OPTION], [0; OPTION]);
@@ -25,10 +26,10 @@
 //! let length = active.offer(
 //!     0,
 //!     Offer {
-//!         b: Role::A.number(),
+//!         role: Role::A,
 //!         aware: false,
 //!         mandatory: false,
-//!         teps: &[tep::P256, tep::CURVE25519],
+//!         teps: &[Tep::P256, Tep::Curve25519],
 //!         resume: false,
 //!         nonce: &[],
 //!     },
@@ -43,7 +44,7 @@
 //!         area: &syn[..length],
 //!         aware: false,
 //!         mandatory: false,
-//!         teps: &[tep::CURVE448, tep::CURVE25519],
+//!         teps: &[Tep::Curve448, Tep::Curve25519],
 //!         nonce: &[],
 //!     },
 //!     &mut syn_ack,
@@ -52,13 +53,13 @@
 //! assert_eq!(active.receive(0, true, true, &syn_ack[..4])?, Phase::Open);
 //!
 //! // The ACK: any ENO option will do.
-//! assert_eq!(passive.receive(23, false, true, &[0x45, 2])?, Phase::Open);
+//! assert_eq!(passive.receive(23, false, true, &ACK_OPTION)?, Phase::Open);
 //!
 //! let mut transcript = [0; TRANSCRIPT];
 //! let outcome = passive.result(23, &mut transcript)?;
 //! assert!(matches!(
 //!     outcome,
-//!     Outcome::Encrypted { role: Role::B, tep: tep::CURVE25519, way: Way::Fresh, transcript: 8 }
+//!     Outcome::Encrypted { role: Role::B, tep: Tep::Curve25519, way: Way::Fresh, transcript: 8, .. }
 //! ));
 //! assert_eq!(transcript[..8], [0x45, 4, 0x21, 0x23, 0x45, 4, 0x01, 0x23]);
 //! # Ok(())
@@ -68,25 +69,25 @@
 //! # A session resumed
 //!
 //! ```
-//! use door_link::{tep, Answer, LinkUnit, Offer, Outcome, Phase, Reply, Role, Way, OPTION, TRANSCRIPT};
+//! use door_link::{Answer, LinkUnit, Offer, Outcome, Phase, Reply, Role, Tep, Way, OPTION, TRANSCRIPT};
 //! # fn main() -> Result<(), door_link::Error> {
 //! let (mut active, mut passive) = (LinkUnit::new(), LinkUnit::new());
 //! let (mut syn, mut syn_ack) = ([0; OPTION], [0; OPTION]);
 //!
 //! // Both ends keep the session of an earlier connection, each with the role that it had there.
 //! let (identifier, secret) = ([7; 18], [9; 32]);
-//! active.store(0, tep::CURVE25519, Role::A.number(), &identifier, &secret)?;
-//! passive.store(23, tep::CURVE25519, Role::B.number(), &identifier, &secret)?;
+//! active.store(0, Tep::Curve25519, Role::A, &identifier, &secret)?;
+//! passive.store(23, Tep::Curve25519, Role::B, &identifier, &secret)?;
 //!
 //! let length = active.offer(
 //!     0,
 //!     Offer {
-//!         b: Role::A.number(),
+//!         role: Role::A,
 //!         aware: false,
 //!         mandatory: false,
-//!         teps: &[tep::CURVE25519],
+//!         teps: &[Tep::Curve25519],
 //!         resume: true,
-//!         nonce: &[1, 2, 3],
+//!         nonce: &[1, 2, 3, 4, 5, 6, 7, 8],
 //!     },
 //!     &mut syn,
 //! )?;
@@ -96,8 +97,8 @@
 //!         area: &syn[..length],
 //!         aware: false,
 //!         mandatory: false,
-//!         teps: &[tep::CURVE25519],
-//!         nonce: &[4, 5, 6],
+//!         teps: &[Tep::Curve25519],
+//!         nonce: &[8, 7, 6, 5, 4, 3, 2, 1],
 //!     },
 //!     &mut syn_ack,
 //! )?;
@@ -107,10 +108,10 @@
 //! assert_eq!(active.receive(0, true, true, &syn_ack[..length])?, Phase::Open);
 //!
 //! let outcome = active.result(0, &mut [0; TRANSCRIPT])?;
-//! let Outcome::Encrypted { tep, way: Way::Resumed(resumed), .. } = outcome else {
+//! let Outcome::Encrypted { byte, way: Way::Resumed(resumed), .. } = outcome else {
 //!     unreachable!("both ends hold the session");
 //! };
-//! assert_eq!(tep, 0x80 | tep::CURVE25519);
+//! assert_eq!(byte, 0xa3);
 //! assert_eq!(resumed.bytes(), &secret);
 //!
 //! // The record is used up at both ends.
@@ -132,13 +133,15 @@ mod generation;
 mod init;
 mod judge;
 mod reply;
+mod tep;
 mod unit;
+pub mod untyped;
 
 pub use frame::{
     frame_id, next_offset, nonce, read_header, read_plaintext, write_header, write_plaintext,
     Header, Plaintext, FRAME_NONCE, HEADER, PLAINTEXT,
 };
-pub use generation::{Generations, Sent};
+pub use generation::{Generations, Received, Sent};
 pub use init::{
     cipher, init1_read, init1_write, init2_read, init2_write, Enabled, Init, INIT_KEY,
     INIT_LONGEST, INIT_NONCE,
@@ -146,6 +149,7 @@ pub use init::{
 pub use judge::{judge, InHand, Judgement, Transcript};
 use reply::{read, Told};
 pub use reply::{Error, Outcome, Phase, Reason, Refusal, Reply, Role, Secret, Status, Way};
+pub use tep::Tep;
 pub use unit::{Answer, LinkUnit, Offer};
 
 /// Doors are 0 to 23.
@@ -161,17 +165,9 @@ pub const IDENTIFIER: usize = 18;
 /// Bytes of a session's secret.
 pub const SECRET: usize = 32;
 
-/// The TEPs (encryption protocols) that the unit knows, without the bit v (0x80).
-pub mod tep {
-    /// ECDHE with P-256.
-    pub const P256: u8 = 0x21;
-    /// ECDHE with P-521.
-    pub const P521: u8 = 0x22;
-    /// ECDHE with Curve25519.
-    pub const CURVE25519: u8 = 0x23;
-    /// ECDHE with Curve448.
-    pub const CURVE448: u8 = 0x24;
-}
+/// The ENO option of a segment without SYN. In either role an end puts it into every segment without SYN that it sends, until the door is Plain or the end has
+/// received a segment without SYN (RFC 8547, 4.6).
+pub const ACK_OPTION: [u8; 2] = [0x45, 0x02];
 
 /// Whether a TCP option area, 0 to 40 bytes, has an ENO option; `syn` says whether it is a SYN's, where two of them count as none.
 ///

@@ -3,10 +3,11 @@
 
 use core::fmt;
 
-use crate::ffi;
+use crate::{ffi, Tep};
 
 /// Why a call gave back no value.
 #[derive(Clone, Copy, PartialEq, Eq, Debug)]
+#[non_exhaustive]
 pub enum Error {
     /// The call is refused: unit and lent buffer are as found.
     Refused(Refusal),
@@ -17,6 +18,7 @@ pub enum Error {
 
 /// Why a call is refused. Where several apply, the one with the lowest number is given.
 #[derive(Clone, Copy, PartialEq, Eq, Debug)]
+#[non_exhaustive]
 #[repr(u8)]
 pub enum Refusal {
     /// The door is above 23.
@@ -123,6 +125,7 @@ impl core::error::Error for Error {}
 
 /// Why a connection is plain TCP. It goes on without encryption; none is a refusal.
 #[derive(Clone, Copy, PartialEq, Eq, Debug)]
+#[non_exhaustive]
 pub enum Reason {
     /// 1: the option area is unreadable. One option makes it so: its length byte is absent, below 2, or beyond the area's end.
     Unreadable {
@@ -200,9 +203,18 @@ pub enum Role {
 }
 
 impl Role {
-    /// The bit b, as the calls take it.
+    /// The bit b.
     pub const fn number(self) -> u8 {
         self as u8
+    }
+
+    /// The role of a bit b.
+    pub const fn of(b: u8) -> Option<Role> {
+        match b {
+            0 => Some(Role::A),
+            1 => Some(Role::B),
+            _ => None,
+        }
     }
 }
 
@@ -217,6 +229,7 @@ pub enum Reply {
 
 /// The phase that a door is in after [`receive`](crate::LinkUnit::receive).
 #[derive(Clone, Copy, PartialEq, Eq, Debug)]
+#[non_exhaustive]
 pub enum Phase {
     /// No connection.
     Idle,
@@ -271,8 +284,10 @@ pub enum Outcome {
     Encrypted {
         /// This end's role in this connection.
         role: Role,
-        /// The TEP byte as host B sent it, with the bit v (0x80).
-        tep: u8,
+        /// The TEP, as Init messages and [`store`](crate::LinkUnit::store) take it.
+        tep: Tep,
+        /// The TEP byte as host B sent it, perhaps with the bit v (0x80). It does not say whether a session is resumed: `way` does.
+        byte: u8,
         /// Fresh, or resumed with its secret.
         way: Way,
         /// So many bytes of the transcript were written to the lent buffer: host A's option, then host B's.
@@ -356,17 +371,17 @@ impl Told {
         }
     }
 
-    /// The kinds that have a number alone. (No TEP byte is 0, so that an encrypted connection is none of them.)
+    /// The kinds that have a number alone; phases are told from 0x1000000 on. (No TEP byte is 0, so that an encrypted connection is none of them.)
     #[inline]
     fn bare(kind: u8, number: usize, room: usize) -> Option<Told> {
         Some(match (kind, number) {
             (1, length) if length <= room => Told::Written(length),
             (2, number) => Told::Plain(Reason::read(number)?),
-            (3, 0) => Told::Now(Phase::Idle),
-            (3, 1) => Told::Now(Phase::Offered),
-            (3, 2) => Told::Now(Phase::Crossed),
-            (3, 3) => Told::Now(Phase::Answered),
-            (3, 4) => Told::Now(Phase::Open),
+            (3, 0x100_0000) => Told::Now(Phase::Idle),
+            (3, 0x100_0001) => Told::Now(Phase::Offered),
+            (3, 0x100_0002) => Told::Now(Phase::Crossed),
+            (3, 0x100_0003) => Told::Now(Phase::Answered),
+            (3, 0x100_0004) => Told::Now(Phase::Open),
             (5, 0) => Told::Done,
             (6, count) if count <= crate::RECORDS => Told::Holds(count),
             (7, 0) => Told::Status(Status::Found),
@@ -426,13 +441,14 @@ pub(crate) fn read<T>(
     value(Told::read(reply, room)?).ok_or(Error::Unexpected)
 }
 
-/// The value of *result*'s reply. A secret where no session is resumed is not the library's.
+/// The value of *result*'s reply. A secret where no session is resumed is not the library's. It is overwritten where it came from.
 pub(crate) fn outcome(
     reply: &ffi::Reply,
     room: usize,
-    secret: [u8; crate::SECRET],
+    told: &mut [u8; crate::SECRET],
 ) -> Result<Outcome, Error> {
-    let secret = Secret(secret);
+    let secret = Secret(*told);
+    ffi::overwrite(told);
     let given = secret.0.iter().fold(0, |all, byte| all | byte) != 0;
     let told = Told::read(reply, room);
     let resumed = matches!(told, Ok(Told::Encrypted { resumed: true, .. }));
@@ -447,7 +463,8 @@ pub(crate) fn outcome(
             transcript,
         } => Ok(Outcome::Encrypted {
             role,
-            tep,
+            tep: Tep::of(tep & 0x7f).ok_or(Error::Unexpected)?,
+            byte: tep,
             way: if resumed {
                 Way::Resumed(secret)
             } else {
@@ -499,7 +516,7 @@ mod tests {
             (0, 1, 16),
             (1, 0, 40),
             (2, 2, 7),
-            (3, 0, 4),
+            (3, 0x100_0000, 0x100_0004),
             (5, 0, 0),
             (6, 0, 4),
             (7, 0, 0),
@@ -604,18 +621,26 @@ mod tests {
             (reply(2, 6, 0), Ok(())),
             (reply(4, 8, 0), Ok(())),
         ] {
-            assert_eq!(outcome(&reply, 40, [0; 32]).map(|_| ()), expected);
-            let shown = outcome(&reply, 40, secret).map(|_| ());
+            assert_eq!(outcome(&reply, 40, &mut [0; 32]).map(|_| ()), expected);
+            let shown = outcome(&reply, 40, &mut { secret }).map(|_| ());
             assert_eq!(shown, Err(Error::Unexpected));
         }
         for secret in [secret, [0; 32]] {
-            let resumed = outcome(&reply(4, 8, 1), 40, secret);
+            let mut told = secret;
+            let resumed = outcome(&reply(4, 8, 1), 40, &mut told);
+            assert_eq!(told, [0; 32]);
             assert!(matches!(
                 resumed,
                 Ok(Outcome::Encrypted { way: Way::Resumed(s), transcript: 8, .. }) if s.bytes() == &secret
             ));
         }
-        let other = outcome(&reply(5, 0, 0), 40, [0; 32]).map(|_| ());
+        let unknown = ffi::Reply {
+            tep: 0xa5,
+            ..reply(4, 8, 0)
+        };
+        let unknown = outcome(&unknown, 40, &mut [0; 32]).map(|_| ());
+        assert_eq!(unknown, Err(Error::Unexpected));
+        let other = outcome(&reply(5, 0, 0), 40, &mut [0; 32]).map(|_| ());
         assert_eq!(other, Err(Error::Unexpected));
     }
 }

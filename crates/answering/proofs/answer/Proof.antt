@@ -56,7 +56,7 @@ decide-requires c κs = search needs
 -- what the answer comes to
 decided : (c : tie.After-decide) → decisionOf (c .decide .result) ≡ answering (seen (c .before .before .before .before .before .before .before)) (c .before .before .before .before .before .before .before .before .before .before .before .before .args .mandatory) (c .before .before .before .before .before .before .before .before .before .before .before .before .args .area .now) (c .before .before .before .before .before .before .before .before .before .before .before .before .args .teps .now)
 unfolding synOption
-decided c = c .decide .ensures ∙ decided-is _ _ _ _ (omega arith) _ (c .before .find-option .ensures) (terms-list _ _ _ _ (sym (c .before .before .before .before .before .terms-fit .ensures) ∙ not-false _ (c .before .before .before .before .if2 .left)))
+decided c = c .decide .ensures ∙ decided-is _ _ _ _ (omega arith) _ (c .before .find-option .ensures .0) (terms-list _ _ _ _ (sym (c .before .before .before .before .before .terms-fit .ensures) ∙ not-false _ (c .before .before .before .before .if2 .left)))
 
 enum-known-decision : tie.Need-enum-known-decision
 enum-known-decision c = search needs
@@ -69,7 +69,7 @@ enum-known-decision-2 c = search needs
 
 respond-requires : tie.Need-respond-requires
 unfolding synOption
-respond-requires c κs = (found-short _ _ _ (c .before .before .before .before .before .find-option .ensures), answer-fits _ _ _ _ _ _ [] (omega arith) (sym (c .before .before .before .before .before .before .before .before .before .terms-fit .ensures) ∙ not-false _ (c .before .before .before .before .before .before .before .before .if2 .left)) _ _ (sym (ap decisionOf (c .before .before .decision2 .given .1)) ∙ decided (c .before .before .before .before)))
+respond-requires c κs = (found-short _ _ _ (c .before .before .before .before .before .find-option .ensures .0), answer-fits _ _ _ _ _ _ [] (omega arith) (sym (c .before .before .before .before .before .before .before .before .before .terms-fit .ensures) ∙ not-false _ (c .before .before .before .before .before .before .before .before .if2 .left)) _ _ (sym (ap decisionOf (c .before .before .decision2 .given .1)) ∙ decided (c .before .before .before .before)))
 
 returns-4 : tie.Need-returns-4
 unfolding seenOf
@@ -80,7 +80,7 @@ same-length c = search needs
 
 returns-5 : tie.Need-returns-5
 unfolding seenOf synOption
-returns-5 c = answer-with _ _ _ _ _ _ _ (omega arith) (sym (c .before .before .before .before .before .before .before .before .before .before .before .before .terms-fit .ensures) ∙ not-false _ (c .before .before .before .before .before .before .before .before .before .before .before .if2 .left)) (sym (c .before .before .before .before .before .before .before .before .before .before .is-idle .ensures) ∙ not-false _ (c .before .before .before .before .before .before .before .before .before .if3 .left)) _ (c .before .before .before .before .before .before .before .before .find-option .ensures) _ _ (sym (ap decisionOf (c .before .before .before .before .before .decision2 .given .1)) ∙ decided (c .before .before .before .before .before .before .before)) _ (c .before .before .respond .ensures)
+returns-5 c = answer-with _ _ _ _ _ _ _ (omega arith) (sym (c .before .before .before .before .before .before .before .before .before .before .before .before .terms-fit .ensures) ∙ not-false _ (c .before .before .before .before .before .before .before .before .before .before .before .if2 .left)) (sym (c .before .before .before .before .before .before .before .before .before .before .is-idle .ensures) ∙ not-false _ (c .before .before .before .before .before .before .before .before .before .if3 .left)) _ (c .before .before .before .before .before .before .before .before .find-option .ensures .0) _ _ (sym (ap decisionOf (c .before .before .before .before .before .decision2 .given .1)) ∙ decided (c .before .before .before .before .before .before .before)) _ (c .before .before .respond .ensures)
 
 pub answer-spec : {M : Type 1} → statement M
 answer-spec =

@@ -1,7 +1,9 @@
 -- `find_option` meets its contract: the part that `locate` names is the part that `finding` names.
 use native.Mathlib.Omega.{arith}
-use Rattle.finder.proofs.Found.{found-within, found-bytes, no-bytes}
+use Rattle.finder.proofs.Found.{found-within, found-bytes, no-bytes, found-start, no-start}
 use borrow.Author.Needs.{needs}
+use mathlib.Core.Path.{_≡_, refl}
+use Prim.Native.Nat.{ℕ, _+_}
 use Rattle.finder.proofs.find_option.Statement.{statement}
 use Rattle.finder.proofs.find_option.Tie as tie
 
@@ -32,11 +34,14 @@ part-result-start-2 c = search needs
 part-result-end-2 : tie.Need-part-result-end-2
 part-result-end-2 c = search needs
 
+place : (o i j : ℕ) → i ≡ j → i + o ≡ o + j
+place o i j e = omega arith
+
 returns : tie.Need-returns
-returns c = found-bytes _ _ _ (c .before .before .before .before .locate .ensures) _ _ (c .before .before .place .given .1)
+returns c = (found-bytes _ _ _ (c .before .before .before .before .locate .ensures) _ _ (c .before .before .place .given .1), refl, let h = found-start _ _ _ (c .before .before .before .before .locate .ensures) _ _ (c .before .before .place .given .1) in place _ _ _ h)
 
 returns-2 : tie.Need-returns-2
-returns-2 c = no-bytes _ _ _ (c .before .before .locate .ensures) (c .before .match .keys2)
+returns-2 c = (no-bytes _ _ _ (c .before .before .locate .ensures) (c .before .match .keys2), refl, let h = no-start _ _ _ (c .before .before .locate .ensures) (c .before .match .keys2) in place _ _ _ h)
 
 pub find-option-spec : {M : Type 1} → statement M
 find-option-spec =

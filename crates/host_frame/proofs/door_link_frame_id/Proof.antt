@@ -1,6 +1,6 @@
 -- `frame_calls::door_link_frame_id` meets its contract.
 use mathlib.Core.Path.{ap}
-use Rattle.host_frame.specs.Replies.{idOf}
+use Rattle.host_frame_numbers.specs.Replies.{idOf}
 use borrow.Author.Needs.{needs}
 use Rattle.host_frame.proofs.door_link_frame_id.Statement.{statement}
 use Rattle.host_frame.proofs.door_link_frame_id.Tie as tie

@@ -1,7 +1,7 @@
 -- `frame_calls::door_link_next_offset` meets its contract.
 use mathlib.Core.Path.{_≡_, ap}
 use Rattle.frame_layout.specs.Outcome.{Outcome}
-use Rattle.host_frame.specs.Replies.{frameNumbers}
+use Rattle.host_frame_numbers.specs.Replies.{frameNumbers}
 use Rattle.host_reply.specs.Telling.{wrapped}
 use borrow.Author.Needs.{needs}
 use Rattle.host_frame.proofs.door_link_next_offset.Statement.{statement}

@@ -1,5 +1,5 @@
 -- `frame_calls::door_link_nonce` meets its contract.
-use Rattle.host_frame.specs.Replies.{nonceNumbers}
+use Rattle.host_frame_numbers.specs.Replies.{nonceNumbers}
 use Rattle.host_reply.specs.Telling.{wrapped}
 use borrow.Author.Needs.{needs}
 use Rattle.host_frame.proofs.door_link_nonce.Statement.{statement}

@@ -1,5 +1,5 @@
 -- `frame_calls::door_link_plaintext_read` meets its contract.
-use Rattle.host_frame.specs.Replies.{plaintextNumbers}
+use Rattle.host_frame_numbers.specs.Replies.{plaintextNumbers}
 use Rattle.host_reply.specs.Telling.{wrapped}
 use borrow.Author.Needs.{needs}
 use Rattle.host_frame.proofs.door_link_plaintext_read.Statement.{statement}

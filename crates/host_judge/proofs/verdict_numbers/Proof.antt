@@ -2,8 +2,8 @@
 use Prim.Native.Nat.{ℕ}
 use mathlib.Core.Path.{_≡_, _∙_, ap}
 use mathlib.Core.List.{[]}
-use Rattle.judge.specs.Answers.{judgedOf}
-use Rattle.judge.specs.declared.Verdict.{Verdict}
+use Rattle.judgement.specs.Answers.{judgedOf}
+use Rattle.judgement.specs.declared.Verdict.{Verdict}
 use Rattle.host_reply.specs.Numbers.{plainNumbers}
 use Rattle.host_judge.specs.Replies.{judgedNumbers}
 use Rattle.host_reply.specs.declared.ReplyNumbers.{ReplyNumbers}

@@ -16,7 +16,7 @@ wide-requires : tie.Need-wide-requires
 wide-requires c κs = search needs
 
 returns-2 : tie.Need-returns-2
-returns-2 c = search needs
+returns-2 c = (c .wide .ensures, omega (arith, c .wide .ensures, c .before .shared-slice-known2 .given 8))
 
 pub count-of-spec : {M : Type 1} → statement M
 count-of-spec = tie.close (tie.spec returns shared-slice-read-wide wide-requires returns-2)

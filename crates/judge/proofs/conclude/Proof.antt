@@ -2,7 +2,7 @@
 use mathlib.Core.Path.{_≡_, refl, sym, _∙_, ap}
 use native.Mathlib.Omega.{arith}
 use borrow.Author.Tests.{not-true, not-false}
-use Rattle.judge.proofs.Concluding.{conclude-none, conclude-some}
+use Rattle.judge_quick.specs.Laws.Concluding.{conclude-none, conclude-some}
 use borrow.Author.Needs.{needs}
 use Rattle.judge.proofs.conclude.Statement.{statement}
 use Rattle.judge.proofs.conclude.Tie as tie

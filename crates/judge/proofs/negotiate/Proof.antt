@@ -1,6 +1,6 @@
 -- `negotiate` meets its contract.
 use mathlib.Core.Path.{_≡_, refl, sym, _∙_, ap}
-use Rattle.judge.proofs.Cases.{negotiated-by, short-a, short-b}
+use Rattle.judge_quick.specs.Laws.Cases.{negotiated-by, short-a, short-b}
 use borrow.Author.Needs.{needs}
 use Rattle.judge.proofs.negotiate.Statement.{statement}
 use Rattle.judge.proofs.negotiate.Tie as tie
@@ -15,10 +15,10 @@ best-of-requires : tie.Need-best-of-requires
 best-of-requires c κs = search needs
 
 conclude-requires : tie.Need-conclude-requires
-conclude-requires c κs = (short-a _ _ _ _ (c .before .before .before .before .host-a-option .ensures) (c .before .before .before .before .before .before .before .before .pre .0) (c .before .before .before .before .before .before .before .before .pre .1), short-b _ _ _ _ (c .before .before .before .host-b-option .ensures) (c .before .before .before .before .before .before .before .before .pre .0) (c .before .before .before .before .before .before .before .before .pre .1))
+conclude-requires c κs = (short-a _ _ _ _ (c .before .before .before .before .host-a-option .ensures .0) (c .before .before .before .before .before .before .before .before .pre .0) (c .before .before .before .before .before .before .before .before .pre .1), short-b _ _ _ _ (c .before .before .before .host-b-option .ensures .0) (c .before .before .before .before .before .before .before .before .pre .0) (c .before .before .before .before .before .before .before .before .pre .1))
 
 returns : tie.Need-returns
-returns c = c .conclude .ensures ∙ negotiated-by _ _ _ _ _ _ _ _ (c .before .before .before .before .before .host-a-option .ensures) (c .before .before .before .before .host-b-option .ensures) (c .before .best-of .ensures)
+returns c = c .conclude .ensures ∙ negotiated-by _ _ _ _ _ _ _ _ (c .before .before .before .before .before .host-a-option .ensures .0) (c .before .before .before .before .host-b-option .ensures .0) (c .before .best-of .ensures)
 
 pub negotiate-spec : {M : Type 1} → statement M
 negotiate-spec =

@@ -9,7 +9,7 @@ use Rattle.eno.specs.declared.InHand.{InHand}
 use Rattle.door.specs.Door.{kept}
 use Rattle.door.specs.declared.Door.{Door}
 use Rattle.door_data.specs.Laws.{kept-whole}
-use Rattle.offering.specs.Steps.{doorOffered}
+use Rattle.door.specs.Offer.{doorOffered}
 use borrow.Author.Needs.{needs}
 use Rattle.offering.proofs.offered_door.Statement.{statement}
 use Rattle.offering.proofs.offered_door.Tie as tie
@@ -37,7 +37,7 @@ cast-n : tie.Need-cast-n
 cast-n c = search needs
 
 returns : tie.Need-returns
-unfolding doorOffered kept
+unfolding kept
 returns c = let a = c .before .before .args in ap (made (length (a .own .now)) (a .mandatory) (a .hand)) (c .kept-option .ensures ∙ kept-whole _ (c .before .before .pre))
 
 pub offered-door-spec : {M : Type 1} → statement M

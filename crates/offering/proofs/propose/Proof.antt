@@ -10,7 +10,7 @@ use lib.ListN.{take, drop}
 use Rattle.eno.specs.Option.{Content, offered, writtenAs, writeOption}
 use Rattle.eno.specs.Laws.Asked.{offer-may-be-asked}
 use Rattle.opening.specs.Steps.{taking}
-use Rattle.offering.specs.Steps.{doorOffered}
+use Rattle.door.specs.Offer.{doorOffered}
 use Rattle.opening.specs.Laws.Writing.{Wrote, said-wrote, said-no-room, said-unfit, within, written-option, written-short, offer-said}
 use Rattle.offering.proofs.Doors.{door-offered}
 use Rattle.opening.specs.Laws.Outcomes.{refuses}

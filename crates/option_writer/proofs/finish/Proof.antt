@@ -2,7 +2,7 @@
 use mathlib.Core.Path.{refl}
 use native.Mathlib.Omega.{arith}
 use borrow.Author.Needs.{needs}
-use Rattle.option_writer.proofs.Putting.{bytes-over, bytes-written}
+use Rattle.option_layout.specs.WholeLaws.{bytes-over, bytes-written}
 use Rattle.option_writer.proofs.finish.Statement.{statement}
 use Rattle.option_writer.proofs.finish.Tie as tie
 

@@ -1,6 +1,6 @@
 -- `option_writer::global_byte` meets its contract.
 use borrow.Author.Needs.{needs}
-use Rattle.option_writer.proofs.Parts.{with-a, without-a}
+use Rattle.option_layout.specs.LastLaws.{with-a, without-a}
 use Rattle.option_writer.proofs.global_byte.Statement.{statement}
 use Rattle.option_writer.proofs.global_byte.Tie as tie
 

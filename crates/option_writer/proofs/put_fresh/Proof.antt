@@ -4,9 +4,9 @@ use native.Mathlib.Omega.{arith}
 use lib.ListN.{length, take}
 use Rattle.eno.specs.Session.{inHand}
 use Rattle.eno.specs.Option.{freshTeps}
-use Rattle.option_writer.specs.Steps.{Puts}
-use Rattle.option_writer.proofs.Putting.{puts-length}
-use Rattle.option_writer.proofs.Fresh.{fresh-begin, fresh-end, next-room, puts-next}
+use Rattle.option_layout.specs.Puts.{Puts}
+use Rattle.option_layout.specs.PutLaws.{puts-length}
+use Rattle.option_layout.specs.FreshLaws.{fresh-begin, fresh-end, next-room, puts-next}
 use Rattle.option_writer.proofs.put_fresh.Statement.{statement}
 use Rattle.option_writer.proofs.put_fresh.Tie as tie
 

@@ -4,8 +4,8 @@ use mathlib.Core.Bool.{false}
 use native.Mathlib.Omega.{arith}
 use borrow.Author.Needs.{needs}
 use Rattle.eno.specs.Session.{inHand}
-use Rattle.option_writer.specs.Steps.{ofHand}
-use Rattle.option_writer.proofs.Fresh.{puts-not-fresh, one-fresh-room, puts-fresh}
+use Rattle.option_layout.specs.Puts.{ofHand}
+use Rattle.option_layout.specs.FreshLaws.{puts-not-fresh, one-fresh-room, puts-fresh}
 use Rattle.option_writer.proofs.put_if_fresh.Statement.{statement}
 use Rattle.option_writer.proofs.put_if_fresh.Tie as tie
 

@@ -6,8 +6,7 @@ use native.Mathlib.Omega.{arith}
 use borrow.Author.Needs.{needs}
 use borrow.Author.Tests.{not-true, not-false}
 use lib.ListN.{length}
-use Rattle.option_writer.proofs.Parts.{puts-no-last, last-room, puts-last}
-use Rattle.option_writer.proofs.Held.{has-room-for-v}
+use Rattle.option_layout.specs.LastLaws.{has-room-for-v, puts-no-last, last-room, puts-last}
 use Rattle.option_writer.proofs.put_last.Statement.{statement}
 use Rattle.option_writer.proofs.put_last.Tie as tie
 

@@ -5,7 +5,7 @@ use borrow.Author.Needs.{needs}
 use borrow.Author.Tests.{not-true, not-false}
 use Rattle.eno.specs.Session.{inHand}
 use Rattle.eno.specs.Option.{offerFits}
-use Rattle.option_writer.proofs.Offering.{offer-unfit, role-fits, fresh-fits, last-fits, AllPut, contents-put}
+use Rattle.option_layout.specs.OfferLaws.{offer-unfit, role-fits, fresh-fits, last-fits, AllPut, contents-put}
 use Rattle.option_writer.proofs.write_offer.Statement.{statement}
 use Rattle.option_writer.proofs.write_offer.Tie as tie
 

@@ -27,7 +27,7 @@ summarize-requires : tie.Need-summarize-requires
 summarize-requires c κs = search needs
 
 returns-2 : tie.Need-returns-2
-returns-2 c = second-ill _ _ (c .before .before .before .before .before .absence .result) (c .before .before .before .before .before .absence .ensures) (omega arith) _ (c .before .before .find-option .ensures) _ (c .before .summarize .ensures) (c .if2 .taken)
+returns-2 c = second-ill _ _ (c .before .before .before .before .before .absence .result) (c .before .before .before .before .before .absence .ensures) (omega arith) _ (c .before .before .find-option .ensures .0) _ (c .before .summarize .ensures) (c .if2 .taken)
 
 kept-length-requires : tie.Need-kept-length-requires
 kept-length-requires c κs = search needs
@@ -45,10 +45,10 @@ same-requires : tie.Need-same-requires
 same-requires c κs = search needs
 
 returns-3 : tie.Need-returns-3
-returns-3 c = second-same _ _ (c .before .before .before .before .before .before .before .before .before .before .before .absence .result) (c .before .before .before .before .before .before .before .before .before .before .before .absence .ensures) (omega arith) _ (c .before .before .before .before .before .before .before .before .find-option .ensures) _ (c .before .before .before .before .before .before .before .summarize .ensures) (c .before .before .before .before .before .before .if2 .left) _ (c .before .before .before .before .kept-length .ensures .0) _ (c .before .same .ensures) (c .if3 .taken)
+returns-3 c = second-same _ _ (c .before .before .before .before .before .before .before .before .before .before .before .absence .result) (c .before .before .before .before .before .before .before .before .before .before .before .absence .ensures) (omega arith) _ (c .before .before .before .before .before .before .before .before .find-option .ensures .0) _ (c .before .before .before .before .before .before .before .summarize .ensures) (c .before .before .before .before .before .before .if2 .left) _ (c .before .before .before .before .kept-length .ensures .0) _ (c .before .same .ensures) (c .if3 .taken)
 
 returns-4 : tie.Need-returns-4
-returns-4 c = second-altered _ _ (c .before .before .before .before .before .before .before .before .before .before .before .absence .result) (c .before .before .before .before .before .before .before .before .before .before .before .absence .ensures) (omega arith) _ (c .before .before .before .before .before .before .before .before .find-option .ensures) _ (c .before .before .before .before .before .before .before .summarize .ensures) (c .before .before .before .before .before .before .if2 .left) _ (c .before .before .before .before .kept-length .ensures .0) _ (c .before .same .ensures) (c .if3 .left)
+returns-4 c = second-altered _ _ (c .before .before .before .before .before .before .before .before .before .before .before .absence .result) (c .before .before .before .before .before .before .before .before .before .before .before .absence .ensures) (omega arith) _ (c .before .before .before .before .before .before .before .before .find-option .ensures .0) _ (c .before .before .before .before .before .before .before .summarize .ensures) (c .before .before .before .before .before .before .if2 .left) _ (c .before .before .before .before .kept-length .ensures .0) _ (c .before .same .ensures) (c .if3 .left)
 
 pub second-reason-spec : {M : Type 1} → statement M
 second-reason-spec =

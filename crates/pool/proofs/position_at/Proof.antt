@@ -8,7 +8,7 @@ use Rattle.pool.proofs.position_at.Statement.{statement}
 use Rattle.pool.proofs.position_at.Tie as tie
 use Rattle.pool.proofs.position_at.Reads as reads
 use Rattle.pool.proofs.position_at.Lts as lts
-use Rattle.unit_bytes.proofs.position_of.Reads as position-of-reads
+use Rattle.door_reader.proofs.position_of.Reads as position-of-reads
 
 position-of-requires : tie.Need-position-of-requires
 position-of-requires c κs = search needs

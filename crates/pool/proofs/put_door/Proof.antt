@@ -7,7 +7,7 @@ use Rattle.pool.proofs.put_door.Statement.{statement}
 use Rattle.pool.proofs.put_door.Tie as tie
 use Rattle.pool.proofs.put_door.Reads as reads
 use Rattle.pool.proofs.put_door.Lts as lts
-use Rattle.unit_bytes.proofs.bytes_of.Reads as bytes-of-reads
+use Rattle.door_writer.proofs.bytes_of.Reads as bytes-of-reads
 
 returns : tie.Need-returns
 unfolding doorsN

@@ -14,7 +14,7 @@ use Rattle.pool.proofs.record_at.Tie as tie
 use Rattle.pool.proofs.record_at.Reads as reads
 use Rattle.pool.proofs.record_at.Lts as lts
 use Rattle.door.proofs.no_session.Reads as no-session-reads
-use Rattle.row_list.proofs.wide.Reads as wide-reads
+use Rattle.wire.proofs.wide.Reads as wide-reads
 use Rattle.unit_bytes.proofs.record_of.Reads as record-of-reads
 
 wide-requires : tie.Need-wide-requires

@@ -6,7 +6,7 @@ use borrow.Author.Tests.{not-true, not-false}
 use borrow.Author.Needs.{needs}
 use denote.Ref.{now}
 use Rattle.door.specs.Door.{seenOf}
-use Rattle.records.specs.Steps.{isNamed}
+use Rattle.record_tests.specs.Steps.{isNamed}
 use Rattle.records.specs.StoreLaws.{is-held, is-not-held}
 use Rattle.records.specs.ForgetLaws.{forget-unfit, forget-not-held, forget-removes}
 use Rattle.records.proofs.forget.Statement.{statement}

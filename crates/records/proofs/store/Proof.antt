@@ -10,7 +10,7 @@ use lib.ListN.{length}
 use Rattle.door.specs.Numbers.{eachN}
 use Rattle.door.specs.Door.{Seen, seenOf}
 use Rattle.door.specs.Records.{isHeld, isRecord}
-use Rattle.records.specs.NameLaws.{identifier-length, secret-length}
+use Rattle.record_tests.specs.NameLaws.{identifier-length, secret-length}
 use Rattle.records.specs.StoreLaws.{sessionOf, is-held, is-not-held, store-unfit, store-full, store-no-row, store-held, store-in-hand, store-adds, stores-nothing, stores-one}
 use Rattle.records.proofs.store.Statement.{statement}
 use Rattle.records.proofs.store.Tie as tie

@@ -11,7 +11,7 @@ use Rattle.row_list.proofs.without_record.Reads as reads
 use Rattle.row_list.proofs.without_record.Lts as lts
 use Rattle.row_list.proofs.misfit.Reads as misfit-reads
 use Rattle.row_list.proofs.closed_up.Reads as closed-up-reads
-use Rattle.row_list.proofs.wide.Reads as wide-reads
+use Rattle.wire.proofs.wide.Reads as wide-reads
 
 misfit-requires : tie.Need-misfit-requires
 misfit-requires c κs = search needs

@@ -1,6 +1,6 @@
 //! The exports behind the driver's trait, over the arrays of a unit as hosts/c/door_link.h hands them on.
 
-use door_link::{Answer, Offer};
+use door_link::untyped::{Answer, Offer};
 
 use crate::driver::calls::{Cause, PhaseNow, Reply, Unit};
 use crate::ffi;
@@ -18,10 +18,10 @@ fn told(reply: &ffi::Reply) -> Reply {
             kind: reply.option,
         }),
         3 => Reply::Now(match number {
-            0 => PhaseNow::Idle,
-            1 => PhaseNow::Offered,
-            2 => PhaseNow::Crossed,
-            3 => PhaseNow::Answered,
+            0x100_0000 => PhaseNow::Idle,
+            0x100_0001 => PhaseNow::Offered,
+            0x100_0002 => PhaseNow::Crossed,
+            0x100_0003 => PhaseNow::Answered,
             _ => PhaseNow::Open,
         }),
         4 => Reply::Open {

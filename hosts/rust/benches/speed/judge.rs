@@ -8,7 +8,8 @@ use crate::driver::random::{seed, Random};
 use crate::plain::judge::Judged;
 use crate::plain::{self, Session};
 use crate::timing::{best, head, ns, ratio, round, row};
-use crate::{ffi, model, InHand};
+use crate::untyped::{self, InHand};
+use crate::{ffi, model};
 
 /// So many pairs are judged by all before the next are: they stay in the cache, so that their reading is not what is measured.
 const BLOCK: usize = 1000;
@@ -66,7 +67,7 @@ impl Pair {
 
     fn safe(&self) -> Result<door_link::Judgement, door_link::Error> {
         let (own, peer) = self.areas();
-        door_link::judge(own, peer, self.mandatory, self.hand.as_ref())
+        untyped::judge(own, peer, self.mandatory, self.hand.as_ref())
     }
 
     fn plain(&self) -> Judged {

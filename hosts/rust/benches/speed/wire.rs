@@ -5,7 +5,7 @@ use std::hint::black_box;
 use door_link as link;
 
 use crate::timing::{best, head, nothing, ns, ratio, round, row};
-use crate::{ffi, plain, Enabled, Generations};
+use crate::{ffi, plain, untyped, Enabled, Generations};
 
 const CALLS: usize = 200;
 const ROUNDS: usize = 1000;
@@ -64,10 +64,10 @@ fn init(idle: f64) {
             idle,
             format!("Init1 written, {name}, three ciphers"),
             ffi::init::init1_write(tep, own, nonce, key, &mut out),
-            link::init1_write(tep, own, nonce, key, &mut out),
+            untyped::init1_write(tep, own, nonce, key, &mut out),
             plain::init::init1_write(tep, own, nonce, key, &mut out)
         );
-        let length = link::init1_write(tep, own, nonce, key, &mut out).expect("a message");
+        let length = untyped::init1_write(tep, own, nonce, key, &mut out).expect("a message");
         let message = out;
         let message = black_box(&message[..length]);
         let flags = black_box([true, false, false]);
@@ -75,7 +75,7 @@ fn init(idle: f64) {
             idle,
             format!("Init1 read, {name}"),
             ffi::init::init1_read(tep, black_box(enabled), message),
-            link::init1_read(tep, black_box(enabled), message),
+            untyped::init1_read(tep, black_box(enabled), message),
             plain::init::init1_read(tep, flags, message)
         );
         let half = black_box(&message[..40]);
@@ -83,24 +83,24 @@ fn init(idle: f64) {
             idle,
             format!("Init1 read, {name}, 40 bytes (9)"),
             ffi::init::init1_read(tep, black_box(enabled), half),
-            link::init1_read(tep, black_box(enabled), half),
+            untyped::init1_read(tep, black_box(enabled), half),
             plain::init::init1_read(tep, flags, half)
         );
         measure!(
             idle,
             format!("Init2 written, {name}"),
             ffi::init::init2_write(tep, black_box(1), nonce, key, &mut out),
-            link::init2_write(tep, black_box(1), nonce, key, &mut out),
+            untyped::init2_write(tep, black_box(1), nonce, key, &mut out),
             plain::init::init2_write(tep, black_box(1), nonce, key, &mut out)
         );
-        let length = link::init2_write(tep, 1, nonce, key, &mut out).expect("a message");
+        let length = untyped::init2_write(tep, 1, nonce, key, &mut out).expect("a message");
         let message = out;
         let message = black_box(&message[..length]);
         measure!(
             idle,
             format!("Init2 read, {name}"),
             ffi::init::init2_read(tep, own, message),
-            link::init2_read(tep, own, message),
+            untyped::init2_read(tep, own, message),
             plain::init::init2_read(tep, own, message)
         );
     }
@@ -143,7 +143,7 @@ fn frames(idle: f64) {
         idle,
         "nonce",
         ffi::frame::nonce(fixed, black_box(offset)),
-        link::nonce(fixed, black_box(offset)),
+        untyped::nonce(fixed, black_box(offset)),
         plain::frame::nonce(fixed, black_box(offset))
     );
     let data = [3; 1400];
@@ -215,7 +215,9 @@ fn generations(idle: f64) {
         idle,
         "frame received, a rekey",
         ffi::generation::receive_frame(black_box(record), true),
-        black_box(&mut record.clone()).receive(true),
+        black_box(&mut record.clone())
+            .receive(true)
+            .map(|frame| frame.accept()),
         black_box(&mut plainly(record)).receive(true)
     );
 }

@@ -50,7 +50,7 @@ pub(crate) fn judge(
     own: &[u8],
     peer: &[u8],
     mandatory: bool,
-    hand: Option<&crate::InHand>,
+    hand: Option<&crate::untyped::InHand>,
 ) -> JudgementNumbers {
     let hand = Hand {
         held: hand.is_some(),

@@ -15,12 +15,21 @@ type Rows = [[u8; ROW]; ROWS];
 type Doors = [[u8; DOOR]; DOORS];
 
 /// All doors and the pool; the bytes are the library's, and any bytes are a unit.
-#[derive(Clone)]
+#[cfg_attr(test, derive(Clone))]
 #[repr(C)]
 pub(crate) struct Unit {
     owners: Owners,
     rows: Rows,
     doors: Doors,
+}
+
+impl Unit {
+    /// Takes over every byte of another unit, in place.
+    pub(crate) fn copy_from(&mut self, other: &Unit) {
+        self.owners.copy_from_slice(&other.owners);
+        self.rows.copy_from_slice(&other.rows);
+        self.doors.copy_from_slice(&other.doors);
+    }
 }
 
 /// What *result* gives back.
@@ -137,7 +146,12 @@ pub(crate) fn new() -> Unit {
     unit
 }
 
-pub(crate) fn offer(unit: &mut Unit, door: usize, ask: &crate::Offer<'_>, out: &mut [u8]) -> Reply {
+pub(crate) fn offer(
+    unit: &mut Unit,
+    door: usize,
+    ask: &crate::untyped::Offer<'_>,
+    out: &mut [u8],
+) -> Reply {
     let (teps, nonce) = (ask.teps, ask.nonce);
     // SAFETY: pointers and lengths are those of slices, and `out` is lent alone.
     unsafe {
@@ -163,7 +177,7 @@ pub(crate) fn offer(unit: &mut Unit, door: usize, ask: &crate::Offer<'_>, out: &
 pub(crate) fn answer(
     unit: &mut Unit,
     door: usize,
-    ask: &crate::Answer<'_>,
+    ask: &crate::untyped::Answer<'_>,
     out: &mut [u8],
 ) -> Reply {
     let (area, teps, nonce) = (ask.area, ask.teps, ask.nonce);
@@ -309,7 +323,7 @@ mod tests {
         let mut unit = new();
         assert_eq!(unit.bytes(), [0; 8640]);
         assert_eq!(store(&mut unit, 5, 0x23, 0, &[7; 18], &[9; 32]).kind, 5);
-        let ask = crate::Offer {
+        let ask = crate::untyped::Offer {
             b: 0,
             aware: false,
             mandatory: false,
@@ -322,7 +336,7 @@ mod tests {
         let area = [&[0x45, 13, 1, 0xa3][..], &[7; 9]].concat();
         for open in [false, true] {
             if open {
-                assert_eq!(receive(&mut unit, 5, true, true, &area).number, 4);
+                assert_eq!(receive(&mut unit, 5, true, true, &area).number, 0x100_0004);
             }
             let before = unit.bytes();
             resend(&unit, 5, out);

@@ -2,7 +2,7 @@
 
 mod wire;
 
-use door_link::{self as link, Error, LinkUnit, Outcome, Phase, Reason, Way};
+use door_link::{self as link, untyped, Error, LinkUnit, Outcome, Phase, Reason, Role, Tep, Way};
 
 use crate::driver::calls::{Cause, PhaseNow, Reply, Unit};
 
@@ -22,7 +22,7 @@ impl Binding {
 fn number(error: Error) -> u8 {
     match error {
         Error::Refused(refusal) => refusal.number(),
-        Error::Unexpected => UNEXPECTED,
+        _ => UNEXPECTED,
     }
 }
 
@@ -31,6 +31,11 @@ fn cause(reason: Reason) -> Cause {
         Reason::Unreadable { place, kind } => Cause::unreadable(place, kind),
         _ => Cause::bare(reason.number()),
     }
+}
+
+/// A list of TEPs by the crate's type, where all of them have one.
+fn typed(teps: &[u8]) -> Option<Vec<Tep>> {
+    teps.iter().map(|tep| Tep::of(*tep)).collect()
 }
 
 fn told<T>(outcome: Result<T, Error>, reply: impl FnOnce(T) -> Reply) -> Reply {
@@ -56,11 +61,22 @@ impl Unit for Binding {
         nonce: &[u8],
         out: &mut [u8],
     ) -> Reply {
+        let (Some(role), Some(typed)) = (Role::of(b), typed(teps)) else {
+            let ask = untyped::Offer {
+                b,
+                aware,
+                mandatory,
+                teps,
+                resume,
+                nonce,
+            };
+            return told(untyped::offer(&mut self.0, door, ask, out), Reply::Written);
+        };
         let ask = link::Offer {
-            b,
+            role,
             aware,
             mandatory,
-            teps,
+            teps: &typed,
             resume,
             nonce,
         };
@@ -77,14 +93,29 @@ impl Unit for Binding {
         nonce: &[u8],
         out: &mut [u8],
     ) -> Reply {
-        let ask = link::Answer {
-            area,
-            aware,
-            mandatory,
-            teps,
-            nonce,
+        let answered = match typed(teps) {
+            Some(teps) => {
+                let ask = link::Answer {
+                    area,
+                    aware,
+                    mandatory,
+                    teps: &teps,
+                    nonce,
+                };
+                self.0.answer(door, ask, out)
+            }
+            None => {
+                let ask = untyped::Answer {
+                    area,
+                    aware,
+                    mandatory,
+                    teps,
+                    nonce,
+                };
+                untyped::answer(&mut self.0, door, ask, out)
+            }
         };
-        told(self.0.answer(door, ask, out), |reply| match reply {
+        told(answered, |reply| match reply {
             link::Reply::Written(length) => Reply::Written(length),
             link::Reply::Plain(reason) => Reply::Plain(cause(reason)),
         })
@@ -99,6 +130,7 @@ impl Unit for Binding {
                 Phase::Answered => PhaseNow::Answered,
                 Phase::Open => PhaseNow::Open,
                 Phase::Plain(reason) => PhaseNow::Plain(cause(reason)),
+                other => panic!("{other:?}: a phase that document 01 has not"),
             })
         })
     }
@@ -112,16 +144,18 @@ impl Unit for Binding {
             Ok(Outcome::Encrypted {
                 role,
                 tep,
+                byte,
                 way,
                 transcript,
             }) => {
+                assert_eq!(tep.number(), byte & 0x7f);
                 let (resumed, secret) = match way {
                     Way::Fresh => (false, [0; 32]),
                     Way::Resumed(secret) => (true, *secret.bytes()),
                 };
                 let reply = Reply::Open {
                     role: role.number(),
-                    tep,
+                    tep: byte,
                     resumed,
                     transcript,
                 };
@@ -137,11 +171,30 @@ impl Unit for Binding {
     }
 
     fn store(&mut self, door: usize, tep: u8, role: u8, identifier: &[u8], secret: &[u8]) -> Reply {
-        done(self.0.store(door, tep, role, identifier, secret))
+        let typed = (
+            Tep::of(tep),
+            Role::of(role),
+            identifier.try_into(),
+            secret.try_into(),
+        );
+        if let (Some(tep), Some(role), Ok(identifier), Ok(secret)) = typed {
+            return done(self.0.store(door, tep, role, identifier, secret));
+        }
+        done(untyped::store(
+            &mut self.0,
+            door,
+            tep,
+            role,
+            identifier,
+            secret,
+        ))
     }
 
     fn forget(&mut self, door: usize, tep: u8, identifier: &[u8]) -> Reply {
-        done(self.0.forget(door, tep, identifier))
+        if let (Some(tep), Ok(identifier)) = (Tep::of(tep), identifier.try_into()) {
+            return done(self.0.forget(door, tep, identifier));
+        }
+        done(untyped::forget(&mut self.0, door, tep, identifier))
     }
 
     fn count(&mut self, door: usize) -> Reply {

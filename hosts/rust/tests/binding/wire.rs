@@ -1,6 +1,6 @@
 //! The calls that need no unit.
 
-use door_link::{self as link, Enabled, Judgement};
+use door_link::{self as link, untyped, Enabled, Judgement, Role, Tep};
 
 use super::{cause, number};
 use crate::driver::calls::*;
@@ -31,7 +31,10 @@ impl Init for Calls {
         key: &[u8],
         out: &mut [u8],
     ) -> Answer<usize> {
-        link::init1_write(tep, ciphers, nonce, key, out).map_err(number)
+        if let (Some(tep), Ok(nonce)) = (Tep::of(tep), nonce.try_into()) {
+            return link::init1_write(tep, ciphers, nonce, key, out).map_err(number);
+        }
+        untyped::init1_write(tep, ciphers, nonce, key, out).map_err(number)
     }
 
     fn init2_write(
@@ -42,7 +45,10 @@ impl Init for Calls {
         key: &[u8],
         out: &mut [u8],
     ) -> Answer<usize> {
-        link::init2_write(tep, cipher, nonce, key, out).map_err(number)
+        if let (Some(tep), Ok(nonce)) = (Tep::of(tep), nonce.try_into()) {
+            return link::init2_write(tep, cipher, nonce, key, out).map_err(number);
+        }
+        untyped::init2_write(tep, cipher, nonce, key, out).map_err(number)
     }
 
     fn init1_read(&self, tep: u8, enabled: [bool; 3], bytes: &[u8]) -> Answer<Init1> {
@@ -52,7 +58,11 @@ impl Init for Calls {
             aes256,
             chacha20,
         };
-        let read = link::init1_read(tep, enabled, bytes).map_err(number)?;
+        let read = match Tep::of(tep) {
+            Some(tep) => link::init1_read(tep, enabled, bytes),
+            None => untyped::init1_read(tep, enabled, bytes),
+        };
+        let read = read.map_err(number)?;
         Ok(Init1 {
             cipher: read.cipher(),
             count: read.count(),
@@ -63,7 +73,11 @@ impl Init for Calls {
     }
 
     fn init2_read(&self, tep: u8, ciphers: &[u16], bytes: &[u8]) -> Answer<Init2> {
-        let read = link::init2_read(tep, ciphers, bytes).map_err(number)?;
+        let read = match Tep::of(tep) {
+            Some(tep) => link::init2_read(tep, ciphers, bytes),
+            None => untyped::init2_read(tep, ciphers, bytes),
+        };
+        let read = read.map_err(number)?;
         assert_eq!(read.count(), 1, "{bytes:02x?}");
         Ok(Init2 {
             cipher: read.cipher(),
@@ -98,7 +112,10 @@ impl Frames for Calls {
     }
 
     fn nonce(&self, offset: u64, fixed: &[u8]) -> Answer<[u8; 12]> {
-        link::nonce(fixed, offset).map_err(number)
+        match fixed.try_into() {
+            Ok(fixed) => link::nonce(fixed, offset).map_err(number),
+            Err(_) => untyped::nonce(fixed, offset).map_err(number),
+        }
     }
 
     fn plaintext_write(
@@ -173,7 +190,14 @@ impl Rekeying for Calls {
     }
 
     fn receive_frame(&self, record: &mut Generations, rekey: bool) -> Answer<u16> {
-        step(record, |record| record.receive(rekey))
+        let mut dropped = lent(record);
+        let looked = dropped.receive(rekey).map(|received| received.generation());
+        assert_eq!(dropped, lent(record), "a frame that is not accepted");
+        let told = step(record, |record| {
+            record.receive(rekey).map(link::Received::accept)
+        });
+        assert_eq!(looked.map_err(number), told);
+        told
     }
 
     fn owed(&self, record: &Generations) -> bool {
@@ -189,22 +213,37 @@ impl Judging for Calls {
         mandatory: bool,
         in_hand: Option<&Record>,
     ) -> Answer<Judged> {
-        let hand = in_hand.map(|record| link::InHand {
-            tep: record.tep,
-            role: record.role,
-            identifier: record.identifier,
-        });
-        let judged = link::judge(own, peer, mandatory, hand.as_ref()).map_err(number)?;
+        let typed = in_hand.map(
+            |record| match (Tep::of(record.tep), Role::of(record.role)) {
+                (Some(tep), Some(role)) => Ok(link::InHand {
+                    tep,
+                    role,
+                    identifier: record.identifier,
+                }),
+                _ => Err(untyped::InHand {
+                    tep: record.tep,
+                    role: record.role,
+                    identifier: record.identifier,
+                }),
+            },
+        );
+        let judged = match typed {
+            None => link::judge(own, peer, mandatory, None),
+            Some(Ok(hand)) => link::judge(own, peer, mandatory, Some(&hand)),
+            Some(Err(hand)) => untyped::judge(own, peer, mandatory, Some(&hand)),
+        };
+        let judged = judged.map_err(number)?;
         Ok(match judged {
             Judgement::Plain(reason) => Judged::Plain(cause(reason)),
             Judgement::Encrypted {
                 role,
-                tep,
+                byte,
                 resumed,
                 transcript,
+                ..
             } => Judged::Encrypted {
                 role: role.number(),
-                tep,
+                tep: byte,
                 resumed,
                 transcript: transcript.bytes().to_vec(),
             },

@@ -1,3 +1,0 @@
--- What the judge's answers mean, and how the code comes to them.
-pub mod Answers
-pub mod Quick

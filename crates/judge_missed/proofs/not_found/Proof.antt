@@ -1,0 +1,33 @@
+-- `not_found` meets its contract.
+use mathlib.Core.Path.{_∙_, ap}
+use Rattle.judgement.specs.Answers.{withoutTranscript}
+use Rattle.judge_missed.proofs.Steps.{missed-both}
+use borrow.Author.Needs.{needs}
+use Rattle.judge_missed.proofs.not_found.Statement.{statement}
+use Rattle.judge_missed.proofs.not_found.Tie as tie
+
+find-status-requires : tie.Need-find-status-requires
+find-status-requires c κs = search needs
+
+find-status-requires-2 : tie.Need-find-status-requires-2
+find-status-requires-2 c κs = search needs
+
+missed-requires : tie.Need-missed-requires
+missed-requires c κs = search needs
+
+without-transcript-requires : tie.Need-without-transcript-requires
+without-transcript-requires c κs = search needs
+
+returns : tie.Need-returns
+returns c =
+    c .without-transcript .ensures ∙ (ap withoutTranscript (c .before .missed .ensures) ∙ missed-both _ _ (c .before .before .before .find-status .result) (c .before .before .find-status2 .result) (c .before .before .before .find-status .ensures) (c .before .before .find-status2 .ensures))
+
+pub not-found-spec : {M : Type 1} → statement M
+not-found-spec =
+    tie.close
+    (tie.spec
+    find-status-requires
+    find-status-requires-2
+    missed-requires
+    without-transcript-requires
+    returns)

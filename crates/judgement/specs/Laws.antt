@@ -1,0 +1,3 @@
+-- Laws of a judge's answers, for the proofs.
+pub mod Plainly
+pub mod Transcript

@@ -1,0 +1,3 @@
+-- What a judge's answers mean.
+pub mod Answers
+pub mod Laws

@@ -1,0 +1,3 @@
+-- A session's name, and laws of the tests on records.
+pub mod Steps
+pub mod NameLaws

@@ -1,0 +1,2 @@
+-- Laws for the proofs of a door that is opened.
+pub mod Doors

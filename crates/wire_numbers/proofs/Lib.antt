@@ -1,0 +1,4 @@
+-- Laws that the proofs share.
+pub mod ReadLoop
+pub mod WriteLoop
+pub mod FrameWrite
