@@ -14,7 +14,7 @@ ghost use Rattle.unit.specs.Run.{on, step};
 ghost use Rattle.unit.specs.Run as run;
 ghost use Rattle.unit_bytes.specs.Layout.{rowSize, doorSize};
 ghost use Rattle.unit_bytes.specs.Content.{unitIn};
-ghost use Rattle.pool.specs.Placed.{DoorsKept};
+ghost use Rattle.pool.specs.Placed.{Erased, DoorsKept};
 ghost use Rattle.host.specs.Replies.{Gives, GivesResult};
 
 // What a result gives back; the secret is zeros unless a session is resumed.
@@ -42,14 +42,14 @@ pub extern "C" fn door_link_unit_size() -> usize
     UNIT_SIZE
 }
 
-// Empties the whole unit, whatever its bytes are: all doors Idle, no record held or in hand.
+// Empties the whole unit, whatever its bytes are: all doors Idle, no record held or in hand, every byte zero.
 #[no_mangle]
 pub extern "C" fn door_link_erase(
     owners: &mut [u8; ROWS],
     rows: &mut [[u8; ROW]; ROWS],
     doors: &mut [[u8; PLACE]; DOORS],
 ) -> ReplyNumbers
-    ensures { λ r. ⌜ Gives r [] (unitIn (now (owners .exit)) (now (rows .exit)) (now (doors .exit))) (step (unitIn (now (owners .entry)) (now (rows .entry)) (now (doors .entry))) run.erase) ⌝ }
+    ensures { λ r. ⌜ (Gives r [] (unitIn (now (owners .exit)) (now (rows .exit)) (now (doors .exit))) (step (unitIn (now (owners .entry)) (now (rows .entry)) (now (doors .entry))) run.erase)) × Erased (now (owners .exit)) (now (rows .exit)) (now (doors .exit)) ⌝ }
 {
     let told = link_unit::erase(owners, rows, doors);
     reply_numbers(told)

@@ -19,15 +19,16 @@ ghost use mathlib.Core.List.{[]};
 ghost use Rattle.unit.specs.Run.{step};
 ghost use Rattle.unit.specs.Run as run;
 ghost use Rattle.unit_bytes.specs.Content.{unitIn};
+ghost use Rattle.pool.specs.Placed.{Erased};
 ghost use Rattle.unit_step.specs.Steps.{stepOf};
 
-// Empties the whole unit, whatever its bytes are: all doors Idle, no record held or in hand.
+// Empties the whole unit, whatever its bytes are: all doors Idle, no record held or in hand, every byte zero.
 pub fn erase(
     owners: &mut [u8; ROWS],
     rows: &mut [[u8; ROW]; ROWS],
     doors: &mut [[u8; PLACE]; DOORS],
 ) -> Reply
-    ensures { λ r. ⌜ stepOf r [] (unitIn (now (owners .exit)) (now (rows .exit)) (now (doors .exit))) ≡ step (unitIn (now (owners .entry)) (now (rows .entry)) (now (doors .entry))) run.erase ⌝ }
+    ensures { λ r. ⌜ (stepOf r [] (unitIn (now (owners .exit)) (now (rows .exit)) (now (doors .exit))) ≡ step (unitIn (now (owners .entry)) (now (rows .entry)) (now (doors .entry))) run.erase) × Erased (now (owners .exit)) (now (rows .exit)) (now (doors .exit)) ⌝ }
 {
     pool::erase(owners, rows, doors);
     Reply::Done

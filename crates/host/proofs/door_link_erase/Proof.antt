@@ -15,7 +15,7 @@ reply-numbers-requires : tie.Need-reply-numbers-requires
 reply-numbers-requires c κs = search needs
 
 returns : tie.Need-returns
-returns c = gives (c .before .erase .result) _ _ _ _ (c .reply-numbers .ensures) (c .before .erase .ensures)
+returns c = (gives (c .before .erase .result) _ _ _ _ (c .reply-numbers .ensures) (c .before .erase .ensures .0), c .before .erase .ensures .1)
 
 pub door-link-erase-spec : {M : Type 1} → statement M
 door-link-erase-spec = tie.close (tie.spec erase-requires reply-numbers-requires returns)

@@ -17,7 +17,7 @@ erase-requires c κs = search needs
 
 returns : tie.Need-returns
 unfolding step
-returns c = ap (λ (u : LinkUnit). stepAs done [] u) (c .erase .ensures .empty)
+returns c = (ap (λ (u : LinkUnit). stepAs done [] u) (c .erase .ensures .empty), c .erase .ensures)
 
 pub erase-spec : {M : Type 1} → statement M
 erase-spec = tie.close (tie.spec erase-requires returns)
