@@ -1,9 +1,9 @@
--- `frame_header::next_offset` meets its contract.
+-- `frame_offset::next_offset` meets its contract.
 use native.Mathlib.Omega.{arith}
-use Rattle.frame_header.proofs.Next.{next-short, next-long, next-over, next-fits}
+use Rattle.frame_offset.proofs.Next.{next-short, next-long, next-over, next-fits}
 use borrow.Author.Needs.{needs}
-use Rattle.frame_header.proofs.next_offset.Statement.{statement}
-use Rattle.frame_header.proofs.next_offset.Tie as tie
+use Rattle.frame_offset.proofs.next_offset.Statement.{statement}
+use Rattle.frame_offset.proofs.next_offset.Tie as tie
 
 returns : tie.Need-returns
 returns c = next-short _ _ (omega arith)
