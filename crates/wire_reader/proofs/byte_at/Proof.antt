@@ -1,11 +1,11 @@
--- `wire_numbers::byte_at` meets its contract: past the end of s a byte reads as 0.
+-- `wire_reader::byte_at` meets its contract: past the end of s a byte reads as 0.
 use native.Mathlib.Omega.{arith}
 use mathlib.Core.Path.{sym}
 use Prim.Native.Nat.{_+_}
 use lib.ListN.{List·getD-eq-default}
 use borrow.Author.Needs.{needs}
-use Rattle.wire_numbers.proofs.byte_at.Statement.{statement}
-use Rattle.wire_numbers.proofs.byte_at.Tie as tie
+use Rattle.wire_reader.proofs.byte_at.Statement.{statement}
+use Rattle.wire_reader.proofs.byte_at.Tie as tie
 
 returns : tie.Need-returns
 returns c = let a = c .before .args in sym (List·getD-eq-default (a .s .now) 0 {n = a .at + a .k} (omega arith))

@@ -1,9 +1,9 @@
--- `wire_numbers::write_number` meets its contract. The loop's invariant: the bytes from the k-th on are written, and y is what stands before them.
+-- `wire_writer::write_number` meets its contract. The loop's invariant: the bytes from the k-th on are written, and y is what stands before them.
 use native.Mathlib.Omega.{arith}
 use borrow.Author.Needs.{needs}
-use Rattle.wire_numbers.proofs.WriteLoop.{write-over, Written, written-start, written-step, written-at, written-done}
-use Rattle.wire_numbers.proofs.write_number.Statement.{statement}
-use Rattle.wire_numbers.proofs.write_number.Tie as tie
+use Rattle.wire_writer.proofs.WriteLoop.{write-over, Written, written-start, written-step, written-at, written-done}
+use Rattle.wire_writer.proofs.write_number.Statement.{statement}
+use Rattle.wire_writer.proofs.write_number.Tie as tie
 
 abbrev Inv-loop : tie.InvT-loop
 Inv-loop s₀ at w x k₀ y₀ s k y = Written s₀ at w x s k y

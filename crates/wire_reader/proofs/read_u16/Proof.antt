@@ -1,7 +1,7 @@
--- `wire_numbers::read_u16` meets its contract: the number of two bytes.
+-- `wire_reader::read_u16` meets its contract: the number of two bytes.
 use borrow.Author.Needs.{needs}
-use Rattle.wire_numbers.proofs.read_u16.Statement.{statement}
-use Rattle.wire_numbers.proofs.read_u16.Tie as tie
+use Rattle.wire_reader.proofs.read_u16.Statement.{statement}
+use Rattle.wire_reader.proofs.read_u16.Tie as tie
 
 read-number-requires : tie.Need-read-number-requires
 read-number-requires c κs = search needs

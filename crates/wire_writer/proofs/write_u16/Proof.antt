@@ -1,7 +1,7 @@
--- `wire_numbers::write_u16` meets its contract: two bytes are written.
+-- `wire_writer::write_u16` meets its contract: two bytes are written.
 use borrow.Author.Needs.{needs}
-use Rattle.wire_numbers.proofs.write_u16.Statement.{statement}
-use Rattle.wire_numbers.proofs.write_u16.Tie as tie
+use Rattle.wire_writer.proofs.write_u16.Statement.{statement}
+use Rattle.wire_writer.proofs.write_u16.Tie as tie
 
 write-number-requires : tie.Need-write-number-requires
 write-number-requires c κs = search needs

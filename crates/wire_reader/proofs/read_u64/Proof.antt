@@ -1,7 +1,7 @@
--- `wire_numbers::read_u64` meets its contract: the number of eight bytes.
+-- `wire_reader::read_u64` meets its contract: the number of eight bytes.
 use borrow.Author.Needs.{needs}
-use Rattle.wire_numbers.proofs.read_u64.Statement.{statement}
-use Rattle.wire_numbers.proofs.read_u64.Tie as tie
+use Rattle.wire_reader.proofs.read_u64.Statement.{statement}
+use Rattle.wire_reader.proofs.read_u64.Tie as tie
 
 read-number-requires : tie.Need-read-number-requires
 read-number-requires c κs = search needs

@@ -1,7 +1,7 @@
--- `wire_numbers::write_u32` meets its contract: four bytes are written.
+-- `wire_writer::write_u32` meets its contract: four bytes are written.
 use borrow.Author.Needs.{needs}
-use Rattle.wire_numbers.proofs.write_u32.Statement.{statement}
-use Rattle.wire_numbers.proofs.write_u32.Tie as tie
+use Rattle.wire_writer.proofs.write_u32.Statement.{statement}
+use Rattle.wire_writer.proofs.write_u32.Tie as tie
 
 write-number-requires : tie.Need-write-number-requires
 write-number-requires c κs = search needs

@@ -1,10 +1,10 @@
--- `wire_numbers::read_number` meets its contract. The loop's invariant: y is the number of the first k bytes.
+-- `wire_reader::read_number` meets its contract. The loop's invariant: y is the number of the first k bytes.
 use Prim.Native.Nat.{_-_}
 use native.Mathlib.Omega.{arith}
 use borrow.Author.Needs.{needs}
-use Rattle.wire_numbers.proofs.ReadLoop.{Got, got-start, got-fits, got-step, got-done}
-use Rattle.wire_numbers.proofs.read_number.Statement.{statement}
-use Rattle.wire_numbers.proofs.read_number.Tie as tie
+use Rattle.wire_reader.proofs.ReadLoop.{Got, got-start, got-fits, got-step, got-done}
+use Rattle.wire_reader.proofs.read_number.Statement.{statement}
+use Rattle.wire_reader.proofs.read_number.Tie as tie
 
 abbrev Inv-loop : tie.InvT-loop
 Inv-loop s at w k₀ y₀ k y = Got s at w k y
