@@ -3,8 +3,8 @@ use Prim.Native.Nat.{_+_}
 use native.Mathlib.Omega.{arith}
 use Rattle.eno.specs.Laws.Area.{option-end, option-zero, option-one, option-cut, option-short, option-over, option-long}
 use borrow.Author.Needs.{needs}
-use Rattle.finder.proofs.option_at.Statement.{statement}
-use Rattle.finder.proofs.option_at.Tie as tie
+use Rattle.area_walk.proofs.option_at.Statement.{statement}
+use Rattle.area_walk.proofs.option_at.Tie as tie
 
 returns : tie.Need-returns
 returns c = option-end _ _ (omega arith)

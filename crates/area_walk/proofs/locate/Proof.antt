@@ -6,10 +6,10 @@ use borrow.Author.Needs.{needs}
 use lib.ListN.{length}
 use Rattle.eno.specs.Walk.{end, fault, item}
 use Rattle.eno.specs.Area.{optionAt}
-use Rattle.finder.specs.Answers.{pieceOf}
-use Rattle.finder.proofs.Locating.{Seen, too-long, seen-start, seen-onward, seen-other, seen-first, seen-again, seen-fault, over-none, over-one, over-two-syn, over-two-other}
-use Rattle.finder.proofs.locate.Statement.{statement}
-use Rattle.finder.proofs.locate.Tie as tie
+use Rattle.area_walk.specs.Answers.{pieceOf}
+use Rattle.area_walk.proofs.Locating.{Seen, too-long, seen-start, seen-onward, seen-other, seen-first, seen-again, seen-fault, over-none, over-one, over-two-syn, over-two-other}
+use Rattle.area_walk.proofs.locate.Statement.{statement}
+use Rattle.area_walk.proofs.locate.Tie as tie
 
 abbrev Inv-loop : tie.InvT-loop
 Inv-loop area syn i₀ seen₀ start₀ len₀ i seen start len = Seen area syn i seen start len
