@@ -1,9 +1,9 @@
--- `frame_calls::door_link_frame_id` meets its contract.
+-- `host_frame_nonce::door_link_frame_id` meets its contract.
 use mathlib.Core.Path.{ap}
 use Rattle.host_frame_numbers.specs.Replies.{idOf}
 use borrow.Author.Needs.{needs}
-use Rattle.host_frame.proofs.door_link_frame_id.Statement.{statement}
-use Rattle.host_frame.proofs.door_link_frame_id.Tie as tie
+use Rattle.host_frame_nonce.proofs.door_link_frame_id.Statement.{statement}
+use Rattle.host_frame_nonce.proofs.door_link_frame_id.Tie as tie
 
 frame-id-requires : tie.Need-frame-id-requires
 frame-id-requires c κs = search needs

@@ -1,8 +1,8 @@
--- `frame_calls::door_link_plaintext_write` meets its contract.
-use Rattle.host_frame.proofs.Giving.{gives-frame}
+-- `host_frame_plaintext::door_link_plaintext_write` meets its contract.
+use Rattle.host_frame_numbers.specs.Giving.{gives-frame}
 use borrow.Author.Needs.{needs}
-use Rattle.host_frame.proofs.door_link_plaintext_write.Statement.{statement}
-use Rattle.host_frame.proofs.door_link_plaintext_write.Tie as tie
+use Rattle.host_frame_plaintext.proofs.door_link_plaintext_write.Statement.{statement}
+use Rattle.host_frame_plaintext.proofs.door_link_plaintext_write.Tie as tie
 
 write-plaintext-requires : tie.Need-write-plaintext-requires
 write-plaintext-requires c κs = search needs

@@ -1,9 +1,9 @@
--- `frame_calls::door_link_nonce` meets its contract.
+-- `host_frame_nonce::door_link_nonce` meets its contract.
 use Rattle.host_frame_numbers.specs.Replies.{nonceNumbers}
 use Rattle.host_reply.specs.Telling.{wrapped}
 use borrow.Author.Needs.{needs}
-use Rattle.host_frame.proofs.door_link_nonce.Statement.{statement}
-use Rattle.host_frame.proofs.door_link_nonce.Tie as tie
+use Rattle.host_frame_nonce.proofs.door_link_nonce.Statement.{statement}
+use Rattle.host_frame_nonce.proofs.door_link_nonce.Tie as tie
 
 nonce-requires : tie.Need-nonce-requires
 nonce-requires c κs = search needs

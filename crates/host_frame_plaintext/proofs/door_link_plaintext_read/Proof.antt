@@ -1,9 +1,9 @@
--- `frame_calls::door_link_plaintext_read` meets its contract.
+-- `host_frame_plaintext::door_link_plaintext_read` meets its contract.
 use Rattle.host_frame_numbers.specs.Replies.{plaintextNumbers}
 use Rattle.host_reply.specs.Telling.{wrapped}
 use borrow.Author.Needs.{needs}
-use Rattle.host_frame.proofs.door_link_plaintext_read.Statement.{statement}
-use Rattle.host_frame.proofs.door_link_plaintext_read.Tie as tie
+use Rattle.host_frame_plaintext.proofs.door_link_plaintext_read.Statement.{statement}
+use Rattle.host_frame_plaintext.proofs.door_link_plaintext_read.Tie as tie
 
 read-plaintext-requires : tie.Need-read-plaintext-requires
 read-plaintext-requires c κs = search needs
