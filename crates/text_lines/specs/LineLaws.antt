@@ -7,11 +7,10 @@ use native.Mathlib.Numerals.{add-one}
 use native.Mathlib.Omega.{arith}
 use borrow.Author.Tests.{eq-eqb, ne-eqb, lt-ltb, le-ltb, ltb-true, ltb-false}
 use lib.Dec.{ltb, eqb}
-use lib.ListN.{length, getD, take, drop, set, length-set, take-append-drop, length-take}
+use lib.ListN.{length, getD, take, drop, set, length-set, take-append-drop, length-take, drop-of-length-le}
 use lib.Seq.{drop-cons, drop-drop, take-all, take-suc-set, drop-set-lt, length-take-le}
 use Rattle.wire.specs.Bytes.{pasted}
 use Rattle.wire.specs.ByteLaws.{pasted-fits}
-use Rattle.text_words.specs.WordLaws.{drop-none}
 use Rattle.text_lines.specs.Line.{Line, newline, grown, longer, lineOf}
 
 -- one byte more is kept in a buffer: its first bytes are the line's, the others are as they were
@@ -114,7 +113,7 @@ module _ (whole : Line) (line₀ chunk : List ℕ) (i : ℕ) (line : List ℕ) (
 
   pub collecting-end : length chunk ≤ i → whole ≡ record { kept = take n line; long = long; whole = false; next = i }
   unfolding lineOf
-  collecting-end h = sym (c .rest) ∙ ap (lineOf (length line₀) (take n line) long i) (drop-none chunk i h)
+  collecting-end h = sym (c .rest) ∙ ap (lineOf (length line₀) (take n line) long i) (drop-of-length-le chunk {i = i} h)
 
   pub collecting-bytes : line ≡ pasted line₀ 0 (take n line)
   collecting-bytes =
