@@ -1,9 +1,9 @@
--- `cursor::enabled_in` is safe and ends. The measure is what is left of the list.
+-- `words::enabled_in` is safe and ends. The measure is what is left of the list.
 use borrow.Author.Needs.{needs}
 use Prim.Native.Nat.{_-_}
 use lib.ListN.{length}
-use Rattle.console.proofs.cursor.enabled_in.Statement.{statement}
-use Rattle.console.proofs.cursor.enabled_in.Tie as tie
+use Rattle.console.proofs.words.enabled_in.Statement.{statement}
+use Rattle.console.proofs.words.enabled_in.Tie as tie
 
 abbrev Inv-loop : tie.InvT-loop
 Inv-loop ciphers aes128₀ aes256₀ chacha20₀ i₀ aes128 aes256 chacha20 i = Unit {0}

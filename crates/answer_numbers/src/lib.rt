@@ -15,7 +15,7 @@ ghost use Rattle.finder.specs.Answers.{statusOf};
 ghost use Rattle.init_layout.specs.Answers.{writingOf, saysOf};
 ghost use Rattle.frame_layout.specs.Answers.{writtenReply, headerReply, nonceReply, plaintextWrittenReply, plaintextReply};
 ghost use Rattle.generation.specs.Answers.{replyOf};
-ghost use Rattle.console.specs.Refused.{inStatus, inWriting, inSays, inFrame, inGeneration};
+ghost use Rattle.answer_numbers.specs.Refused.{inStatus, inWriting, inSays, inFrame, inGeneration};
 
 pub fn by_unit(refusal: Refusal) -> u64
     ensures { λ r. ⌜ r ≡ refusalNumber refusal ⌝ }

@@ -1,13 +1,13 @@
--- `main` is safe and ends. The invariant: the buffers of the input keep their lengths. The measure is the number of turns that are left.
+-- `run` is safe and ends. The invariant: the buffers of the input keep their lengths. The measure is the number of turns that are left.
 use borrow.Author.Needs.{needs}
 use mathlib.Core.Path.{_≡_}
 use lib.ListN.{length}
-use Rattle.console.proofs.main.Statement.{statement}
-use Rattle.console.proofs.main.Tie as tie
+use Rattle.console.proofs.run.Statement.{statement}
+use Rattle.console.proofs.run.Tie as tie
 
 abbrev Inv-loop : tie.InvT-loop
 Inv-loop owners₀ rows₀ doors₀ record₀ chunk₀ line₀ place₀ number₀ turns₀ owners rows doors «record» chunk line place number turns =
-    (length chunk ≡ 65536) × (length line ≡ 20000)
+    (length chunk ≡ 65536) × (length line ≡ 20001)
 
 abbrev μ-loop : tie.MeasureT-loop
 μ-loop owners₀ rows₀ doors₀ record₀ chunk₀ line₀ place₀ number₀ turns₀ owners rows doors «record» chunk line place number turns =
@@ -43,14 +43,23 @@ advance-requires c κs = search needs
 wrapping-add-u64-requires : tie.Need-wrapping-add-u64-requires Inv-loop μ-loop
 wrapping-add-u64-requires c κs = search needs
 
-slice-aggregate-part : tie.Need-slice-aggregate-part Inv-loop μ-loop
-slice-aggregate-part c = search needs
+slice-aggregate-first : tie.Need-slice-aggregate-first Inv-loop μ-loop
+slice-aggregate-first c = search needs
 
-part-requires : tie.Need-part-requires Inv-loop μ-loop
-part-requires c κs = search needs
+first-requires : tie.Need-first-requires Inv-loop μ-loop
+first-requires c κs = search needs
+
+without-return-requires : tie.Need-without-return-requires Inv-loop μ-loop
+without-return-requires c κs = search needs
 
 run-line-requires : tie.Need-run-line-requires Inv-loop μ-loop
 run-line-requires c κs = search needs
+
+failed-requires : tie.Need-failed-requires Inv-loop μ-loop
+failed-requires c κs = search needs
+
+returns-2 : tie.Need-returns-2 Inv-loop μ-loop
+returns-2 c = search needs
 
 loop-less : tie.Need-loop-less Inv-loop μ-loop
 loop-less c = search needs
@@ -64,11 +73,11 @@ loop-less-2 c = search needs
 loop-again-2 : tie.Need-loop-again-2 Inv-loop μ-loop
 loop-again-2 c = search needs
 
-returns-2 : tie.Need-returns-2 Inv-loop μ-loop
-returns-2 c = search needs
+returns-3 : tie.Need-returns-3 Inv-loop μ-loop
+returns-3 c = search needs
 
-pub main-spec : {M : Type 1} → statement M
-main-spec =
+pub run-spec : {M : Type 1} → statement M
+run-spec =
     tie.close
     (tie.spec
     Inv-loop
@@ -83,11 +92,14 @@ main-spec =
     slice-aggregate-advance-2
     advance-requires
     wrapping-add-u64-requires
-    slice-aggregate-part
-    part-requires
+    slice-aggregate-first
+    first-requires
+    without-return-requires
     run-line-requires
+    failed-requires
+    returns-2
     loop-less
     loop-again
     loop-less-2
     loop-again-2
-    returns-2)
+    returns-3)

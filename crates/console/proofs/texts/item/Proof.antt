@@ -1,14 +1,14 @@
--- `texts::text` is safe and ends: the measure is the number of texts that are passed over.
+-- `texts::item` is safe and ends: the measure is the number of items that are passed over.
 use Prim.Native.Nat.{_≤_}
 use borrow.Author.Needs.{needs}
-use Rattle.console.proofs.texts.text.Statement.{statement}
-use Rattle.console.proofs.texts.text.Tie as tie
+use Rattle.console.proofs.texts.item.Statement.{statement}
+use Rattle.console.proofs.texts.item.Tie as tie
 
 abbrev Inv-loop : tie.InvT-loop
-Inv-loop list number at₀ left₀ at left = 0 ≤ left
+Inv-loop list separator number at₀ left₀ at left = 0 ≤ left
 
 abbrev μ-loop : tie.MeasureT-loop
-μ-loop list number at₀ left₀ at left = left
+μ-loop list separator number at₀ left₀ at left = left
 
 loop-holds : tie.Need-loop-holds Inv-loop μ-loop
 loop-holds c = search needs
@@ -25,8 +25,8 @@ loop-less c = search needs
 loop-again : tie.Need-loop-again Inv-loop μ-loop
 loop-again c = search needs
 
-newline-requires : tie.Need-newline-requires Inv-loop μ-loop
-newline-requires c κs = search needs
+place-of-requires : tie.Need-place-of-requires Inv-loop μ-loop
+place-of-requires c κs = search needs
 
 between-requires : tie.Need-between-requires Inv-loop μ-loop
 between-requires c κs = search needs
@@ -34,8 +34,8 @@ between-requires c κs = search needs
 returns : tie.Need-returns Inv-loop μ-loop
 returns c = search needs
 
-pub text-spec : {M : Type 1} → statement M
-text-spec =
+pub item-spec : {M : Type 1} → statement M
+item-spec =
     tie.close
     (tie.spec
     Inv-loop
@@ -45,6 +45,6 @@ text-spec =
     sub-left
     loop-less
     loop-again
-    newline-requires
+    place-of-requires
     between-requires
     returns)

@@ -1,24 +1,27 @@
--- `number_in` is safe and ends: the number stays at or below the place, and the measure is the number of bytes left.
+-- `form_of` is safe and ends: the number stays at or below the place, and the measure is the number of bytes left.
 use borrow.Author.Needs.{needs}
 use Prim.Native.Nat.{_≤_, _-_}
 use lib.ListN.{length}
-use Rattle.console.proofs.parse.number_in.Statement.{statement}
-use Rattle.console.proofs.parse.number_in.Tie as tie
+use Rattle.console.proofs.lines.form_of.Statement.{statement}
+use Rattle.console.proofs.lines.form_of.Tie as tie
 
 abbrev Inv-loop : tie.InvT-loop
-Inv-loop all word k₀ at₀ k at = (k ≤ at) × (at ≤ length all)
+Inv-loop forms name k₀ at₀ k at = (k ≤ at) × (at ≤ length forms)
 
 abbrev μ-loop : tie.MeasureT-loop
-μ-loop all word k₀ at₀ k at = length all - at
+μ-loop forms name k₀ at₀ k at = length forms - at
 
 loop-holds : tie.Need-loop-holds Inv-loop μ-loop
 loop-holds c = search needs
 
-word-end-requires : tie.Need-word-end-requires Inv-loop μ-loop
-word-end-requires c κs = search needs
+place-of-requires : tie.Need-place-of-requires Inv-loop μ-loop
+place-of-requires c κs = search needs
 
 between-requires : tie.Need-between-requires Inv-loop μ-loop
 between-requires c κs = search needs
+
+word-requires : tie.Need-word-requires Inv-loop μ-loop
+word-requires c κs = search needs
 
 same-requires : tie.Need-same-requires Inv-loop μ-loop
 same-requires c κs = search needs
@@ -44,15 +47,16 @@ loop-again c = search needs
 returns-3 : tie.Need-returns-3 Inv-loop μ-loop
 returns-3 c = search needs
 
-pub number-in-spec : {M : Type 1} → statement M
-number-in-spec =
+pub form-of-spec : {M : Type 1} → statement M
+form-of-spec =
     tie.close
     (tie.spec
     Inv-loop
     μ-loop
     loop-holds
-    word-end-requires
+    place-of-requires
     between-requires
+    word-requires
     same-requires
     returns
     returns-2
