@@ -1,6 +1,7 @@
 // Lines that are calls of the frame library on headers, offsets and nonces.
 use crate::read;
 use crate::said;
+use crate::said::Answer;
 use crate::say;
 use crate::word;
 use frame::HeaderSays;
@@ -17,25 +18,23 @@ fn clen(line: &[u8]) -> usize {
     read::number(line, word::LENGTH) as usize
 }
 
-fn next_words(came: NextOffset, out: &mut [u8]) -> usize {
+fn next_answer(came: NextOffset) -> Answer {
     match came {
-        NextOffset::Next(next) => say::number(out, 0, said::NEXT, next),
-        NextOffset::NoFrame => say::refused(out, 11),
+        NextOffset::Next(next) => said::one(said::NEXT, next),
+        NextOffset::NoFrame => said::refused(11),
     }
 }
 
 pub fn next_offset(line: &[u8]) {
     let came = frame::next_offset(offset(line), clen(line));
-    let mut words = [0u8; 80];
-    let n = next_words(came, &mut words);
-    say::compared(line, read::first(&words, n), true);
+    say::compared(line, next_answer(came), true);
 }
 
-fn written_words(came: HeaderWritten, out: &mut [u8]) -> usize {
+fn written_answer(came: HeaderWritten) -> Answer {
     match came {
-        HeaderWritten::Next(next) => say::number(out, 0, said::NEXT, next),
-        HeaderWritten::NoRoom => say::refused(out, 5),
-        HeaderWritten::NoFrame => say::refused(out, 11),
+        HeaderWritten::Next(next) => said::one(said::NEXT, next),
+        HeaderWritten::NoRoom => said::refused(5),
+        HeaderWritten::NoFrame => said::refused(11),
     }
 }
 
@@ -48,22 +47,20 @@ fn write_header(line: &[u8], lent: &mut [u8]) -> HeaderWritten {
 pub fn header_written(line: &[u8]) {
     let mut lent = [say::FILL; say::LENT];
     let came = write_header(line, &mut lent);
-    let mut words = [0u8; 80];
-    let n = written_words(came, &mut words);
-    say::check(line, read::first(&words, n), &lent, say::FILL);
+    say::check(line, written_answer(came), &lent, say::FILL);
 }
 
-fn header_words(rekey: bool, clen: u16, next: u64, out: &mut [u8]) -> usize {
-    let n = say::flag(out, 0, said::REKEY, rekey);
-    let n = say::number(out, n, said::LENGTH, clen as u64);
-    say::number(out, n, said::NEXT, next)
-}
-
-fn says_words(says: HeaderSays, out: &mut [u8]) -> usize {
+fn header_answer(says: HeaderSays) -> Answer {
     match says {
-        HeaderSays::Header { rekey, clen, next } => header_words(rekey, clen, next, out),
-        HeaderSays::Incomplete => say::refused(out, 9),
-        HeaderSays::NoFrame => say::refused(out, 11),
+        HeaderSays::Header { rekey, clen, next } => said::four(
+            said::HEADER,
+            said::flag(rekey),
+            clen as u64,
+            next,
+            0,
+        ),
+        HeaderSays::Incomplete => said::refused(9),
+        HeaderSays::NoFrame => said::refused(11),
     }
 }
 
@@ -71,39 +68,29 @@ fn says_words(says: HeaderSays, out: &mut [u8]) -> usize {
 pub fn header_read(line: &[u8]) {
     let mut bytes = [0u8; 8];
     let k = read::list(line, word::BYTES, &mut bytes);
-    let r = frame::read_header(read::first(&bytes, k), offset(line));
+    let r = frame::read_header(text_words::first(&bytes, k), offset(line));
     let says = r.says;
     let associated = r.associated;
-    let mut given = [0u8; say::LENT];
-    wire::copy(&mut given, 0, &associated);
-    let mut words = [0u8; 80];
-    let n = says_words(says, &mut words);
-    say::check(line, read::first(&words, n), &given, 0);
+    say::told(line, header_answer(says), &associated);
 }
 
-fn nonce_words(says: NonceSays, out: &mut [u8]) -> usize {
+fn nonce_answer(says: NonceSays) -> Answer {
     match says {
-        NonceSays::Made => say::word(out, 0, said::MADE),
-        NonceSays::OtherLength => say::refused(out, 3),
+        NonceSays::Made => said::plain(said::MADE),
+        NonceSays::OtherLength => said::refused(3),
     }
 }
 
 pub fn nonce(line: &[u8]) {
     let mut fixed = [0u8; 16];
     let k = read::list(line, word::FIXED, &mut fixed);
-    let r = frame::nonce(read::first(&fixed, k), offset(line));
+    let r = frame::nonce(text_words::first(&fixed, k), offset(line));
     let says = r.says;
     let nonce = r.nonce;
-    let mut given = [0u8; say::LENT];
-    wire::copy(&mut given, 0, &nonce);
-    let mut words = [0u8; 80];
-    let n = nonce_words(says, &mut words);
-    say::check(line, read::first(&words, n), &given, 0);
+    say::told(line, nonce_answer(says), &nonce);
 }
 
 pub fn frame_id(line: &[u8]) {
     let id = frame::frame_id(offset(line));
-    let mut given = [0u8; say::LENT];
-    wire::copy(&mut given, 0, &id);
-    say::check(line, b" made", &given, 0);
+    say::told(line, said::plain(said::MADE), &id);
 }

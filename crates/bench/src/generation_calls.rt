@@ -1,45 +1,47 @@
 // Lines that are steps of a generation record.
 use crate::read;
 use crate::said;
+use crate::said::Answer;
 use crate::say;
 use crate::word;
 use generation::GenerationRecord;
 use generation::GenerationReply;
 use generation::GenerationStep;
 
-fn reply_words(reply: GenerationReply, out: &mut [u8]) -> usize {
+fn reply_answer(reply: GenerationReply) -> Answer {
     match reply {
         GenerationReply::Sent { generation, rekey } => {
-            let n = say::number(out, 0, said::SENT, generation as u64);
-            say::flag(out, n, said::REKEY, rekey)
+            said::four(said::SENT, generation as u64, said::flag(rekey), 0, 0)
         }
-        GenerationReply::Received(generation) => {
-            say::number(out, 0, said::RECEIVED, generation as u64)
-        }
-        GenerationReply::Owed => say::refused(out, 4),
-        GenerationReply::PastLast => say::refused(out, 13),
-        GenerationReply::Finished => say::refused(out, 14),
-        GenerationReply::Unanswered => say::refused(out, 15),
+        GenerationReply::Received(generation) => said::one(said::RECEIVED, generation as u64),
+        GenerationReply::Owed => said::refused(4),
+        GenerationReply::PastLast => said::refused(13),
+        GenerationReply::Finished => said::refused(14),
+        GenerationReply::Unanswered => said::refused(15),
     }
 }
 
-fn record_words(g: GenerationRecord, out: &mut [u8], at: usize) -> usize {
-    let n = say::number(out, at, said::LOCAL, g.local as u64);
-    let n = say::number(out, n, said::REMOTE, g.remote as u64);
-    let n = say::number(out, n, said::LAST, g.last as u64);
-    let n = say::flag(out, n, said::FIN, g.fin);
-    say::flag(out, n, said::OWED, generation::is_owed(g))
+fn record_answer(g: GenerationRecord) -> Answer {
+    said::five(
+        said::RECORD,
+        g.local as u64,
+        g.remote as u64,
+        g.last as u64,
+        said::flag(g.fin),
+        said::flag(generation::is_owed(g)),
+    )
 }
 
+// A step on the record, which is lent for it.
 fn step(g: GenerationRecord, line: &[u8]) -> GenerationStep {
     if read::has(line, word::RECEIVE) {
-        return generation::receive(g, read::flag(line, word::REKEY));
+        return generation_lender::lend_to_receive(g, read::flag(line, word::REKEY));
     }
     let fin = read::flag(line, word::FIN);
     if read::has(line, word::SEND) {
-        return generation::send(g, fin);
+        return generation_lender::lend_to_send(g, fin);
     }
-    generation::initiate(g, read::flag(line, word::DATA), fin)
+    generation_lender::lend_to_initiate(g, read::flag(line, word::DATA), fin)
 }
 
 fn number(line: &[u8], word: u32) -> u16 {
@@ -61,8 +63,8 @@ pub fn made(g: GenerationRecord, line: &[u8]) -> GenerationRecord {
     let after = r.next;
     let reply = r.reply;
     let mut words = [0u8; 80];
-    let n = reply_words(reply, &mut words);
-    let n = record_words(after, &mut words, n);
-    say::compared(line, read::first(&words, n), true);
+    let n = say::put_answer(&mut words, 0, reply_answer(reply));
+    let n = say::put_answer(&mut words, n, record_answer(after));
+    say::words_compared(line, text_words::first(&words, n), true);
     after
 }

@@ -1,6 +1,7 @@
 // Lines that write or read an Init message.
 use crate::read;
 use crate::said;
+use crate::said::Answer;
 use crate::say;
 use crate::word;
 use init::Enabled;
@@ -31,11 +32,11 @@ fn first(ciphers: &[u16], n: usize) -> &[u16] {
     &ciphers[0..n]
 }
 
-fn written_words(came: InitWritten, out: &mut [u8]) -> usize {
+fn written_answer(came: InitWritten) -> Answer {
     match came {
-        InitWritten::Written(n) => say::number(out, 0, said::WROTE, n as u64),
-        InitWritten::Unfit => say::refused(out, 3),
-        InitWritten::NoRoom => say::refused(out, 5),
+        InitWritten::Written(n) => said::one(said::WROTE, n as u64),
+        InitWritten::Unfit => said::refused(3),
+        InitWritten::NoRoom => said::refused(5),
     }
 }
 
@@ -60,8 +61,8 @@ fn write(line: &[u8], lent: &mut [u8]) -> InitWritten {
     let nonces = read::list(line, word::NONCE, &mut nonce);
     let mut key = [0u8; 64];
     let keys = read::list(line, word::KEY, &mut key);
-    let sent = read::first(&nonce, nonces);
-    let public = read::first(&key, keys);
+    let sent = text_words::first(&nonce, nonces);
+    let public = text_words::first(&key, keys);
     if read::has(line, word::TAKEN) {
         let tep = read::byte(line, word::TEP);
         return init::init2_write(tep, taken(line), sent, public, part);
@@ -72,28 +73,26 @@ fn write(line: &[u8], lent: &mut [u8]) -> InitWritten {
 pub fn written(line: &[u8]) {
     let mut lent = [say::FILL; say::LENT];
     let came = write(read::given(line), &mut lent);
-    let mut words = [0u8; 80];
-    let n = written_words(came, &mut words);
-    say::check(line, read::first(&words, n), &lent, say::FILL);
+    say::check(line, written_answer(came), &lent, say::FILL);
 }
 
-fn read_words(cipher: u16, count: usize, length: usize, out: &mut [u8]) -> usize {
-    let n = say::hex(out, 0, said::CIPHER, cipher as u64, 4);
-    let n = say::number(out, n, said::COUNT, count as u64);
-    say::number(out, n, said::LENGTH, length as u64)
-}
-
-fn answer_words(answer: InitAnswer, out: &mut [u8]) -> usize {
+fn read_answer(answer: InitAnswer) -> Answer {
     match answer {
         InitAnswer::Read {
             cipher,
             count,
             length,
-        } => read_words(cipher, count, length, out),
-        InitAnswer::Unfit => say::refused(out, 3),
-        InitAnswer::Unreadable => say::refused(out, 8),
-        InitAnswer::Incomplete => say::refused(out, 9),
-        InitAnswer::NoCommonCipher => say::refused(out, 10),
+        } => said::four(
+            said::CIPHER,
+            (cipher / 256) as u64,
+            (cipher % 256) as u64,
+            count as u64,
+            length as u64,
+        ),
+        InitAnswer::Unfit => said::refused(3),
+        InitAnswer::Unreadable => said::refused(8),
+        InitAnswer::Incomplete => said::refused(9),
+        InitAnswer::NoCommonCipher => said::refused(10),
     }
 }
 
@@ -113,9 +112,9 @@ fn read_message(line: &[u8]) -> InitRead {
     if read::has(line, word::OFFERED) {
         let mut own = [0u16; 8];
         let k = ciphers(line, word::OFFERED, &mut own);
-        return init::init2_read(tep, first(&own, k), read::first(&message, n));
+        return init::init2_read(tep, first(&own, k), text_words::first(&message, n));
     }
-    init::init1_read(tep, enabled(line), read::first(&message, n))
+    init::init1_read(tep, enabled(line), text_words::first(&message, n))
 }
 
 // What is read: the nonce and the key, as its array has it, stand behind the colon.
@@ -124,10 +123,8 @@ pub fn told(line: &[u8]) {
     let answer = r.answer;
     let nonce = r.nonce;
     let key = r.key;
-    let mut given = [0u8; say::LENT];
+    let mut given = [0u8; 88];
     wire::copy(&mut given, 0, &nonce);
     wire::copy(&mut given, 32, &key);
-    let mut words = [0u8; 80];
-    let n = answer_words(answer, &mut words);
-    say::check(line, read::first(&words, n), &given, 0);
+    say::told(line, read_answer(answer), &given);
 }

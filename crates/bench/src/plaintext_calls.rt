@@ -1,6 +1,7 @@
 // Lines that write and read plaintexts, up to 70,000 bytes.
 use crate::read;
 use crate::said;
+use crate::said::Answer;
 use crate::say;
 use crate::word;
 use frame::PlaintextRead;
@@ -20,32 +21,48 @@ fn count_up(s: &mut [u8]) {
     }
 }
 
-fn read_words(came: PlaintextRead, out: &mut [u8], at: usize) -> usize {
+fn read_answer(came: PlaintextRead) -> Answer {
     match came {
         PlaintextRead::Plaintext {
             fin,
             urg,
             urgent,
             data_at,
-        } => {
-            let n = say::flag(out, at, said::FIN, fin);
-            let n = say::flag(out, n, said::URG, urg);
-            let n = say::number(out, n, said::URGENT, urgent as u64);
-            say::number(out, n, said::FROM, data_at as u64)
-        }
-        PlaintextRead::Short => say::refused(out, 12),
+        } => said::four(
+            said::PLAINTEXT,
+            said::flag(fin),
+            said::flag(urg),
+            urgent as u64,
+            data_at as u64,
+        ),
+        PlaintextRead::Short => said::refused(12),
     }
 }
 
+// An answer behind how much was written.
+fn behind_wrote(n: usize, read: Answer) -> Answer {
+    if read.form == said::PLAINTEXT {
+        return said::five(
+            said::WROTE_PLAINTEXT,
+            n as u64,
+            read.a,
+            read.b,
+            read.c,
+            read.d,
+        );
+    }
+    read
+}
+
 // A plaintext that was written is read back.
-fn written_words(came: PlaintextWritten, lent: &[u8], out: &mut [u8]) -> usize {
+fn written_answer(came: PlaintextWritten, lent: &[u8]) -> Answer {
     match came {
         PlaintextWritten::Wrote(n) => {
-            let end = say::number(out, 0, said::WROTE, n as u64);
-            read_words(frame::read_plaintext(read::first(lent, n)), out, end)
+            let back = frame::read_plaintext(text_words::first(lent, n));
+            behind_wrote(n, read_answer(back))
         }
-        PlaintextWritten::NoRoom => say::refused(out, 5),
-        PlaintextWritten::TooLong => say::refused(out, 11),
+        PlaintextWritten::NoRoom => said::refused(5),
+        PlaintextWritten::TooLong => said::refused(11),
     }
 }
 
@@ -56,7 +73,7 @@ fn expect(line: &[u8], data: &[u8], out: &mut [u8]) {
     if n == 0 {
         return;
     }
-    wire::copy(out, 0, read::first(&heading, n));
+    wire::copy(out, 0, text_words::first(&heading, n));
     wire::copy(out, n, data);
 }
 
@@ -71,12 +88,11 @@ fn write(line: &[u8], data: &[u8], lent: &mut [u8]) -> PlaintextWritten {
 // Writes the plaintext of a line, whose data are the first bytes of a buffer, and holds it against what is expected.
 fn compare(line: &[u8], bytes: &mut [u8], lent: &mut [u8], expected: &mut [u8]) {
     count_up(bytes);
-    let data = read::first(bytes, read::number(line, word::DATA) as usize);
+    let data = text_words::first(bytes, read::number(line, word::DATA) as usize);
     let came = write(line, data, lent);
     expect(line, data, expected);
-    let mut words = [0u8; 80];
-    let n = written_words(came, lent, &mut words);
-    say::compared(line, read::first(&words, n), wire::same(lent, expected));
+    let alike = wire::same(lent, expected);
+    say::compared(line, written_answer(came, lent), alike);
 }
 
 pub fn written(line: &[u8]) {
@@ -89,8 +105,6 @@ pub fn written(line: &[u8]) {
 pub fn told(line: &[u8]) {
     let mut bytes = [0u8; 16];
     let k = read::list(line, word::BYTES, &mut bytes);
-    let came = frame::read_plaintext(read::first(&bytes, k));
-    let mut words = [0u8; 80];
-    let n = read_words(came, &mut words, 0);
-    say::compared(line, read::first(&words, n), true);
+    let came = frame::read_plaintext(text_words::first(&bytes, k));
+    say::compared(line, read_answer(came), true);
 }

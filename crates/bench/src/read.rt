@@ -1,68 +1,32 @@
-// A table's lines, and the words, numbers and bytes of a line.
-ghost use Prim.Native.Nat.{_≤_, _<_};
-ghost use lib.ListN.{length};
+// The words, numbers and bytes of a line.
+use text_words::Number;
+use text_words::Octet;
+ghost use Prim.Native.Nat.{_≤_};
 
 // What `token` says of two dots, and of anything that is no byte.
 const DOTS: u16 = 256;
 
 const NONE: u16 = 257;
 
-// 2^64 - 1 without its last digit.
-const MOST_TENS: u64 = 1844674407370955161;
-
-// The first n bytes; all where there are fewer.
-pub fn first(s: &[u8], n: usize) -> &[u8] {
-    if s.len() < n {
-        return s;
-    }
-    &s[0..n]
-}
-
-// The bytes from a place to before another; none where they are not there.
-pub fn part(s: &[u8], a: usize, b: usize) -> &[u8] {
-    if s.len() < b {
-        return &s[0..0];
-    }
-    if b < a {
-        return &s[0..0];
-    }
-    &s[a..b]
-}
-
-// The first place, from a place on, where a byte stands; the end where it stands nowhere.
-pub fn until(s: &[u8], at: usize, c: u8) -> usize
-    ensures { λ r. ⌜ at ≤ r ⌝ }
-{
-    let mut i = at;
-    while i < s.len() {
-        if s[i] == c {
-            return i;
-        }
-        i += 1;
-    }
-    i
-}
-
 // What is given: the line to its arrow.
 pub fn given(line: &[u8]) -> &[u8] {
-    first(line, until(line, 0, b'>'))
+    text_words::first(line, text_words::place_of(line, 0, b'>'))
 }
 
-// The place of the last letter by which the first such word is named, behind its blank; the end where it does not stand.
+// Where the first word that is so named begins; the end where there is none.
 fn place(s: &[u8], word: u32) -> usize {
-    let mut i = 0;
-    while i < s.len() {
-        if s[i] == b' ' {
-            if wire_numbers::read_u32(s, i + 1) == word {
-                if s.len() - i < 5 {
-                    return s.len();
-                }
-                return i + 4;
-            }
+    let mut at = 0;
+    while at < s.len() {
+        if wire_numbers::read_u32(s, at) == word {
+            return at;
         }
-        i += 1;
+        let end = text_words::word_end(s, at);
+        if s.len() <= end {
+            return end;
+        }
+        at = end + 1;
     }
-    i
+    at
 }
 
 pub fn has(s: &[u8], word: u32) -> bool {
@@ -71,59 +35,16 @@ pub fn has(s: &[u8], word: u32) -> bool {
 
 // What stands behind a word, from its blank on; nothing where the word does not stand.
 fn behind(s: &[u8], word: u32) -> &[u8] {
-    part(s, until(s, place(s, word), b' '), s.len())
-}
-
-// The value of a hex digit; 16 where it is none.
-fn digit(c: u8) -> u8
-    ensures { λ r. ⌜ r ≤ 16 ⌝ }
-{
-    if c < 48 {
-        return 16;
-    }
-    if c <= 57 {
-        return c - 48;
-    }
-    if c < 97 {
-        return 16;
-    }
-    if c <= 102 {
-        return c - 87;
-    }
-    16
-}
-
-// A number with one more digit; without it past 2^64 - 1.
-fn with_digit(n: u64, d: u8) -> u64 {
-    if MOST_TENS < n {
-        return n;
-    }
-    let tens = n * 10;
-    let units = d as u64;
-    if 0xffff_ffff_ffff_ffff - tens < units {
-        return n;
-    }
-    tens + units
-}
-
-// The decimal number behind a blank at the beginning.
-fn decimal(s: &[u8]) -> u64 {
-    let mut i = 1;
-    let mut n: u64 = 0;
-    while i < s.len() {
-        let d = digit(s[i]);
-        if 9 < d {
-            return n;
-        }
-        n = with_digit(n, d);
-        i += 1;
-    }
-    n
+    text_words::from(s, text_words::word_end(s, place(s, word)))
 }
 
 // The number behind a word; 0 where it does not stand.
 pub fn number(s: &[u8], word: u32) -> u64 {
-    decimal(behind(s, word))
+    let said = text_words::number_said(text_words::word(behind(s, word), 1));
+    match said {
+        Number::Said(n) => n,
+        Number::Wrong => 0,
+    }
 }
 
 // The number behind a word, or the most that may be.
@@ -137,20 +58,23 @@ pub fn at_most(s: &[u8], word: u32, most: usize) -> usize
     n
 }
 
+// The number behind a word, or 255.
+pub fn small(s: &[u8], word: u32) -> u8 {
+    at_most(s, word, 255) as u8
+}
+
 // Whether the number behind a word is not 0.
 pub fn flag(s: &[u8], word: u32) -> bool {
     number(s, word) != 0
 }
 
-// Two hex digits.
+// The byte that two hex digits say.
 fn pair(high: u8, low: u8) -> u16 {
-    if 15 < high {
-        return NONE;
+    let said = text_words::byte_said(high, low);
+    match said {
+        Octet::Said(byte) => byte as u16,
+        Octet::Wrong => NONE,
     }
-    if 15 < low {
-        return NONE;
-    }
-    (high * 16 + low) as u16
 }
 
 // What stands at a place: a blank, and a byte in hex or two dots.
@@ -164,12 +88,10 @@ fn token(s: &[u8], at: usize) -> u16 {
     if s[at] != b' ' {
         return NONE;
     }
-    let high = s[at + 1];
-    let low = s[at + 2];
-    if high == b'.' {
+    if s[at + 1] == b'.' {
         return DOTS;
     }
-    pair(digit(high), digit(low))
+    pair(s[at + 1], s[at + 2])
 }
 
 // Puts a byte, where there is room, and gives the place after it.

@@ -49,12 +49,12 @@ pub fn unit_table(table: &[u8]) {
     link_unit::erase(&mut owners, &mut rows, &mut doors);
     let mut at = 0;
     while at < table.len() {
-        let end = read::until(table, at, b'\n');
+        let end = text_words::place_of(table, at, b'\n');
         unit_line(
             &mut owners,
             &mut rows,
             &mut doors,
-            read::part(table, at, end),
+            text_words::between(table, at, end),
         );
         if table.len() <= end {
             return;
@@ -138,8 +138,8 @@ pub fn table(table: &[u8]) {
     let mut g = generation::first_record();
     let mut at = 0;
     while at < table.len() {
-        let end = read::until(table, at, b'\n');
-        let after = other_line(g, read::part(table, at, end));
+        let end = text_words::place_of(table, at, b'\n');
+        let after = other_line(g, text_words::between(table, at, end));
         g = after;
         if table.len() <= end {
             return;

@@ -1,68 +1,90 @@
-// The words of answers, by their place in the text of `say::word`.
+// What a call answers: a form, by the place where it stands in the text of `say::put_answer`, and the numbers that it shows in turn.
+pub struct Answer {
+    pub form: usize,
+    pub a: u64,
+    pub b: u64,
+    pub c: u64,
+    pub d: u64,
+    pub e: u64,
+}
+
 pub const REFUSED: usize = 0;
 
-pub const WROTE: usize = 1;
+pub const WROTE: usize = 11;
 
-pub const PLAIN: usize = 2;
+pub const PLAIN: usize = 20;
 
-pub const HOLDS: usize = 3;
+pub const UNREADABLE: usize = 29;
 
-pub const DONE: usize = 4;
+pub const HOLDS: usize = 53;
 
-pub const IDLE: usize = 5;
+pub const DONE: usize = 62;
 
-pub const OFFERED: usize = 6;
+pub const IDLE: usize = 68;
 
-pub const CROSSED: usize = 7;
+pub const OFFERED: usize = 74;
 
-pub const ANSWERED: usize = 8;
+pub const CROSSED: usize = 83;
 
-pub const OPEN: usize = 9;
+pub const ANSWERED: usize = 92;
 
-pub const PHASE_PLAIN: usize = 10;
+pub const OPEN: usize = 102;
 
-pub const ROLE: usize = 11;
+pub const PHASE_PLAIN: usize = 108;
 
-pub const TEP: usize = 12;
+pub const FRESH: usize = 115;
 
-pub const FRESH: usize = 13;
+pub const RESUMED: usize = 148;
 
-pub const RESUMED: usize = 14;
+pub const CIPHER: usize = 183;
 
-pub const TRANSCRIPT: usize = 15;
+pub const NEXT: usize = 211;
 
-pub const CIPHER: usize = 16;
+pub const HEADER: usize = 219;
 
-pub const COUNT: usize = 17;
+pub const MADE: usize = 244;
 
-pub const LENGTH: usize = 18;
+pub const PLAINTEXT: usize = 250;
 
-pub const NEXT: usize = 19;
+pub const WROTE_PLAINTEXT: usize = 279;
 
-pub const REKEY: usize = 20;
+pub const SENT: usize = 316;
 
-pub const MADE: usize = 21;
+pub const RECEIVED: usize = 332;
 
-pub const FIN: usize = 22;
+pub const RECORD: usize = 344;
 
-pub const URG: usize = 23;
+pub fn five(form: usize, a: u64, b: u64, c: u64, d: u64, e: u64) -> Answer {
+    Answer {
+        form,
+        a,
+        b,
+        c,
+        d,
+        e,
+    }
+}
 
-pub const URGENT: usize = 24;
+pub fn four(form: usize, a: u64, b: u64, c: u64, d: u64) -> Answer {
+    five(form, a, b, c, d, 0)
+}
 
-pub const FROM: usize = 25;
+pub fn one(form: usize, a: u64) -> Answer {
+    five(form, a, 0, 0, 0, 0)
+}
 
-pub const SENT: usize = 26;
+pub fn plain(form: usize) -> Answer {
+    one(form, 0)
+}
 
-pub const RECEIVED: usize = 27;
+// The scope document's number of a refusal.
+pub fn refused(n: u64) -> Answer {
+    one(REFUSED, n)
+}
 
-pub const LOCAL: usize = 28;
-
-pub const REMOTE: usize = 29;
-
-pub const LAST: usize = 30;
-
-pub const OWED: usize = 31;
-
-pub const PLACE: usize = 32;
-
-pub const KIND: usize = 33;
+pub fn flag(x: bool) -> u64 {
+    if x {
+        return 1;
+    }
+    0
+}

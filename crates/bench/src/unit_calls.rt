@@ -1,6 +1,7 @@
 // Lines that are calls of the unit, which is lent.
 use crate::read;
 use crate::said;
+use crate::said::Answer;
 use crate::say;
 use crate::word;
 use door::Phase;
@@ -35,7 +36,7 @@ fn refusal_number(why: Refusal) -> u64 {
     }
 }
 
-fn phase_word(phase: Phase) -> usize {
+fn phase_form(phase: Phase) -> usize {
     match phase {
         Phase::Idle => said::IDLE,
         Phase::Offered => said::OFFERED,
@@ -46,43 +47,47 @@ fn phase_word(phase: Phase) -> usize {
     }
 }
 
-fn encrypted_words(role: u8, tep: u8, resumed: bool, length: usize, out: &mut [u8]) -> usize {
-    let n = say::number(out, 0, said::ROLE, wide(role));
-    let n = say::hex(out, n, said::TEP, wide(tep), 2);
-    let way = if resumed { said::RESUMED } else { said::FRESH };
-    let n = say::word(out, n, way);
-    say::number(out, n, said::TRANSCRIPT, length as u64)
+fn way_form(resumed: bool) -> usize {
+    if resumed {
+        return said::RESUMED;
+    }
+    said::FRESH
 }
 
 // Plain TCP and its reason; of an unreadable area also the place and the kind of the option that makes it so.
-fn plain_words(cause: Cause, out: &mut [u8]) -> usize {
-    let n = say::number(out, 0, said::PLAIN, wide(cause.reason));
+fn plain_answer(cause: Cause) -> Answer {
     if cause.reason != 1 {
-        return n;
+        return said::one(said::PLAIN, wide(cause.reason));
     }
-    let n = say::number(out, n, said::PLACE, wide(cause.place));
-    say::hex(out, n, said::KIND, wide(cause.kind), 2)
+    said::four(said::UNREADABLE, 1, wide(cause.place), wide(cause.kind), 0)
 }
 
-fn reply_words(reply: Reply, out: &mut [u8]) -> usize {
+fn answer_of(reply: Reply) -> Answer {
     match reply {
-        Reply::Refused(why) => say::refused(out, refusal_number(why)),
-        Reply::Written(n) => say::number(out, 0, said::WROTE, n as u64),
-        Reply::Plain(cause) => plain_words(cause, out),
-        Reply::Now(phase) => say::word(out, 0, phase_word(phase)),
+        Reply::Refused(why) => said::refused(refusal_number(why)),
+        Reply::Written(n) => said::one(said::WROTE, n as u64),
+        Reply::Plain(cause) => plain_answer(cause),
+        Reply::Now(phase) => said::plain(phase_form(phase)),
         Reply::Encrypted {
             role,
             tep,
             resumed,
             length,
-        } => encrypted_words(role, tep, resumed, length, out),
-        Reply::Done => say::word(out, 0, said::DONE),
-        Reply::Holds(n) => say::number(out, 0, said::HOLDS, n as u64),
+        } => said::four(way_form(resumed), wide(role), wide(tep), length as u64, 0),
+        Reply::Done => said::plain(said::DONE),
+        Reply::Holds(n) => said::one(said::HOLDS, n as u64),
     }
 }
 
 // The word of an offer whose side is application-aware; `word` has the others.
 const AWARE: u32 = 0x6177_6172;
+
+fn is_aware(line: &[u8], mandatory: bool) -> bool {
+    if mandatory {
+        return true;
+    }
+    read::has(line, AWARE)
+}
 
 // An offer without a nonce; where it is mandatory that the other side is application-aware, this side is too.
 fn offer(
@@ -93,9 +98,9 @@ fn offer(
     line: &[u8],
     lent: &mut [u8],
 ) -> Reply {
-    let b = read::at_most(line, word::ROLE, 255) as u8;
+    let b = read::small(line, word::ROLE);
     let mandatory = read::has(line, word::MANDATORY);
-    let aware = mandatory || read::has(line, AWARE);
+    let aware = is_aware(line, mandatory);
     let mut list = [0u8; ROOM];
     let n = read::list(line, word::TEPS, &mut list);
     let resume = read::has(line, word::RESUMING);
@@ -107,7 +112,7 @@ fn offer(
         b,
         aware,
         mandatory,
-        read::first(&list, n),
+        text_words::first(&list, n),
         resume,
         b"",
         lent,
@@ -133,10 +138,10 @@ fn answer(
         rows,
         doors,
         door,
-        read::first(&area, long),
+        text_words::first(&area, long),
         aware,
         aware,
-        read::first(&list, n),
+        text_words::first(&list, n),
         b"",
         lent,
     )
@@ -153,7 +158,15 @@ fn receive(
     let n = read::list(line, word::AREA, &mut area);
     let syn = !read::has(line, word::ACK);
     let ack = !read::has(line, word::SYN);
-    link_unit::receive(owners, rows, doors, door, syn, ack, read::first(&area, n))
+    link_unit::receive(
+        owners,
+        rows,
+        doors,
+        door,
+        syn,
+        ack,
+        text_words::first(&area, n),
+    )
 }
 
 // The byte of which the secret that a reply gives has 32.
@@ -200,7 +213,7 @@ fn store(
     line: &[u8],
 ) -> Reply {
     let tep = read::byte(line, word::TEP);
-    let b = read::at_most(line, word::ROLE, 255) as u8;
+    let b = read::small(line, word::ROLE);
     let mut identifier = [0u8; ROOM];
     let n = read::list(line, word::IDENTIFIER, &mut identifier);
     let secret = [SECRET; 32];
@@ -211,7 +224,7 @@ fn store(
         door,
         tep,
         b,
-        read::first(&identifier, n),
+        text_words::first(&identifier, n),
         &secret,
     )
 }
@@ -226,7 +239,14 @@ fn forget(
     let tep = read::byte(line, word::TEP);
     let mut identifier = [0u8; ROOM];
     let n = read::list(line, word::IDENTIFIER, &mut identifier);
-    link_unit::forget(owners, rows, doors, door, tep, read::first(&identifier, n))
+    link_unit::forget(
+        owners,
+        rows,
+        doors,
+        door,
+        tep,
+        text_words::first(&identifier, n),
+    )
 }
 
 fn record_call(
@@ -289,7 +309,5 @@ pub fn made(
 ) {
     let mut lent = [say::FILL; say::LENT];
     let reply = call(owners, rows, doors, read::given(line), &mut lent);
-    let mut words = [0u8; ROOM];
-    let n = reply_words(reply, &mut words);
-    say::check(line, read::first(&words, n), &lent, say::FILL);
+    say::check(line, answer_of(reply), &lent, say::FILL);
 }

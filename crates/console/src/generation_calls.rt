@@ -1,75 +1,81 @@
-// The generation record that the console lends: each step is made with the words of its line, and its reply is written with the record afterwards.
-use crate::command::Rekeying;
-use crate::refused::by_generation;
-use crate::text::and_flag;
-use crate::text::and_number;
-use crate::text::finish;
+// The generation record that the console lends: each step is made with the words of its line, and its reply's words are put with the record afterwards.
+use crate::text::and_numbers;
+use crate::text::bit;
 use crate::text::put;
 use crate::text::put_counted;
+use crate::text::put_numbers;
+use crate::text::refuse;
+use crate::words::flag;
+use crate::words::short;
+use answer_numbers::by_generation;
 use generation::GenerationRecord;
 use generation::GenerationReply;
 use generation::GenerationStep;
 
+// The record after a call, and where the reply's words end.
+pub struct Called {
+    pub record: GenerationRecord,
+    pub end: usize,
+}
+
 // A record stands last in its line.
-fn finish_record(out: &mut [u8], at: usize, record: GenerationRecord) {
-    let after_local = and_number(out, at, record.local as u64);
-    let after_remote = and_number(out, after_local, record.remote as u64);
-    let after_last = and_number(out, after_remote, record.last as u64);
-    let end = and_flag(out, after_last, record.fin);
-    finish(out, end, 1);
+fn and_record(out: &mut [u8], at: usize, record: GenerationRecord) -> usize {
+    let numbers = [
+        record.local as u64,
+        record.remote as u64,
+        record.last as u64,
+        bit(record.fin),
+    ];
+    and_numbers(out, at, &numbers)
 }
 
 fn put_answer(out: &mut [u8], answer: GenerationReply) -> usize {
     match answer {
         GenerationReply::Sent { generation, rekey } => {
-            let at = put_counted(out, b"sent", generation as u64);
-            and_flag(out, at, rekey)
+            let numbers = [generation as u64, bit(rekey)];
+            put_numbers(out, b"sent", &numbers)
         }
         GenerationReply::Received(generation) => put_counted(out, b"took", generation as u64),
-        GenerationReply::Owed
-        | GenerationReply::PastLast
-        | GenerationReply::Finished
-        | GenerationReply::Unanswered => put_counted(out, b"refused", by_generation(answer)),
+        _ => refuse(out, by_generation(answer)),
     }
 }
 
-// Writes what a step answers; the record afterwards.
-fn answered(out: &mut [u8], step: GenerationStep) -> GenerationRecord {
+// Puts what a step answers.
+fn answered(out: &mut [u8], step: GenerationStep) -> Called {
     let answer = step.reply;
     let record = step.next;
     let at = put_answer(out, answer);
-    finish_record(out, at, record);
-    record
+    let end = and_record(out, at, record);
+    Called { record, end }
 }
 
-pub fn call(record: GenerationRecord, asked: Rekeying, out: &mut [u8]) -> GenerationRecord {
-    match asked {
-        Rekeying::Lend {
-            local,
-            remote,
-            last,
-            fin,
-        } => {
-            let lent = GenerationRecord {
-                local,
-                remote,
-                last,
-                fin,
-            };
-            let at = put(out, 0, b"generation");
-            finish_record(out, at, lent);
-            lent
-        }
-        Rekeying::Send { fin } => answered(out, generation::send(record, fin)),
-        Rekeying::Initiate { has_data, fin } => {
-            answered(out, generation::initiate(record, has_data, fin))
-        }
-        Rekeying::Take { rekey } => answered(out, generation::receive(record, rekey)),
-        Rekeying::Owed => {
-            let at = put(out, 0, b"owed");
-            let end = and_flag(out, at, generation::is_owed(record));
-            finish(out, end, 1);
-            record
-        }
+fn lend(words: &[u64], out: &mut [u8]) -> Called {
+    let record = GenerationRecord {
+        local: short(words, 0),
+        remote: short(words, 1),
+        last: short(words, 2),
+        fin: flag(words, 3),
+    };
+    let at = put(out, 0, b"generation");
+    let end = and_record(out, at, record);
+    Called { record, end }
+}
+
+fn owed(record: GenerationRecord, out: &mut [u8]) -> Called {
+    let end = put_counted(out, b"owed", bit(generation::is_owed(record)));
+    Called { record, end }
+}
+
+// Makes a step and puts its reply's words. No other number is a form of these.
+pub fn call(record: GenerationRecord, form: usize, words: &[u64], out: &mut [u8]) -> Called {
+    match form {
+        20 => lend(words, out),
+        21 => answered(out, generation::send(record, flag(words, 0))),
+        22 => answered(
+            out,
+            generation::initiate(record, flag(words, 0), flag(words, 1)),
+        ),
+        23 => answered(out, generation::receive(record, flag(words, 0))),
+        _ => owed(record, out),
     }
 }

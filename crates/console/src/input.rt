@@ -1,5 +1,5 @@
 // Lines of standard input: bytes are read in chunks and collected into a line.
-use crate::text::part;
+use crate::output::may_repeat;
 use text_lines::Collected;
 use text_lines::collect;
 
@@ -39,39 +39,74 @@ fn collected(chunk: &[u8], line: Collected) -> Place {
     }
 }
 
-// Goes on with a line, or with a new one where the last is whole.
-fn resume(chunk: &[u8], from: usize, line: &mut [u8], at: Place) -> Place {
+// A line that is not whole yet, or a new one where the last is; no chunk is at hand.
+fn unfinished(at: Place) -> Place {
     if at.whole {
-        return collected(chunk, collect(chunk, from, line, 0, false));
+        return start();
     }
-    collected(chunk, collect(chunk, from, line, at.length, at.long))
+    Place {
+        filled: 0,
+        used: 0,
+        length: at.length,
+        long: at.long,
+        whole: false,
+        over: false,
+    }
 }
 
-// Whether bytes stand in an unfinished line; a byte that is too many follows others.
-fn pending(at: Place) -> bool {
-    if at.whole {
-        return false;
+// Goes on with a line, or with a new one where the last is whole.
+fn resume(chunk: &[u8], from: usize, line: &mut [u8], at: Place) -> Place {
+    let before = unfinished(at);
+    collected(
+        chunk,
+        collect(chunk, from, line, before.length, before.long),
+    )
+}
+
+// The input is over. Bytes of an unfinished line are a line, if `counts`; a byte that is too many follows others.
+fn over(at: Place, counts: bool) -> Place {
+    let last = unfinished(at);
+    if counts {
+        return Place {
+            filled: 0,
+            used: 0,
+            length: last.length,
+            long: last.long,
+            whole: 0 < last.length,
+            over: true,
+        };
     }
-    0 < at.length
+    Place {
+        filled: 0,
+        used: 0,
+        length: 0,
+        long: false,
+        whole: false,
+        over: true,
+    }
+}
+
+// After a read that failed: it is made again, or the input is over and what stands of its last line is not run.
+fn failed(at: Place) -> Place {
+    if may_repeat() {
+        return unfinished(at);
+    }
+    os::fail(b"console: standard input");
+    over(at, false)
 }
 
 // Reads on, to a newline or through one chunk. The last line may end with the input.
 pub fn advance(chunk: &mut [u8], line: &mut [u8], at: Place) -> Place {
     if at.used < at.filled {
-        return resume(part(chunk, at.filled), at.used, line, at);
+        return resume(text_words::first(chunk, at.filled), at.used, line, at);
     }
     let got = libc::read(0, chunk);
-    let filled = io::count(got, chunk);
-    if filled == 0 {
-        let whole = pending(at);
-        return Place {
-            filled: 0,
-            used: 0,
-            length: at.length,
-            long: at.long,
-            whole,
-            over: true,
-        };
+    if got < 0 {
+        return failed(at);
     }
+    if got == 0 {
+        return over(at, true);
+    }
+    let filled = io::count(got, chunk);
     resume(&chunk[..filled], 0, line, at)
 }

@@ -1,25 +1,20 @@
 // The console: reads commands from standard input, a line each, runs each on one unit and writes one line for each (docs/CONSOLE.md).
-mod command;
-mod cursor;
-mod forms;
 mod generation_calls;
-mod generation_lines;
 mod input;
+mod lines;
 mod message_calls;
-mod message_lines;
 mod message_replies;
-mod names;
-mod parse;
-mod refused;
+mod output;
 mod text;
 mod texts;
 mod unfit;
 mod unit_calls;
-mod unit_lines;
 mod unit_replies;
+mod words;
 
-use command::Command;
 use generation::GenerationRecord;
+use generation_calls::Called;
+use lines::Asked;
 use link_unit::DOORS;
 use link_unit::PLACE;
 use link_unit::ROW;
@@ -28,43 +23,94 @@ use link_unit::ROWS;
 // A reading loop has to end: no input reaches this many turns.
 const TURNS: u64 = 0x8000_0000_0000_0000;
 
-// Runs a command and writes its reply in out. The bytes of its words stand in first, second and third, in order, and its buffer in lent; the generation record afterwards.
-fn run_command(
+// The generation record after a line, and whether the line's reply was written.
+struct Ran {
+    record: GenerationRecord,
+    written: bool,
+}
+
+// The forms without the unit: 20 to 24 are those of the generation record.
+fn called_without_unit(
+    record: GenerationRecord,
+    form: usize,
+    words: &[u64],
+    bytes: &[u8],
+    lent: &mut [u8],
+    out: &mut [u8],
+) -> Called {
+    match form {
+        20..=24 => generation_calls::call(record, form, words, out),
+        _ => {
+            let end = message_calls::call(form, words, bytes, lent, out);
+            Called { record, end }
+        }
+    }
+}
+
+// Makes the call of a form, by its number in the list of run_line, and puts its reply's words.
+fn called(
     owners: &mut [u8; ROWS],
     rows: &mut [[u8; ROW]; ROWS],
     doors: &mut [[u8; PLACE]; DOORS],
     record: GenerationRecord,
-    number: u64,
-    asked: Command,
-    first: &[u8],
-    second: &[u8],
-    third: &[u8],
+    form: usize,
+    words: &[u64],
+    bytes: &[u8],
     lent: &mut [u8],
     out: &mut [u8],
-) -> GenerationRecord {
-    match asked {
-        Command::Nothing => record,
-        Command::Unfit(expected) => {
-            unfit::unfit(out, number, expected);
-            record
-        }
-        Command::Unit(ask) => {
-            unit_calls::call(owners, rows, doors, ask, first, second, third, lent, out);
-            record
-        }
-        Command::Look(look) => {
-            unit_calls::look(owners, rows, doors, look, lent, out);
-            record
-        }
-        Command::Message(message) => {
-            message_calls::call(message, first, second, third, lent, out);
-            record
-        }
-        Command::Rekeying(step) => generation_calls::call(record, step, out),
+) -> Called {
+    if form < 10 {
+        let end = unit_calls::call(owners, rows, doors, form, words, bytes, lent, out);
+        return Called { record, end };
+    }
+    called_without_unit(record, form, words, bytes, lent, out)
+}
+
+// A lent buffer comes last in a reply.
+fn and_lent(out: &mut [u8], at: usize, lends: bool, lent: &[u8]) -> usize {
+    if lends {
+        return text::and_hex(out, at, lent);
+    }
+    at
+}
+
+// Runs a form and writes its reply.
+fn run_form(
+    owners: &mut [u8; ROWS],
+    rows: &mut [[u8; ROW]; ROWS],
+    doors: &mut [[u8; PLACE]; DOORS],
+    record: GenerationRecord,
+    form: usize,
+    lends: bool,
+    words: &[u64],
+    bytes: &[u8],
+    lent: &mut [u8],
+) -> Ran {
+    // A reply has at most one word without a bound of its own, a lent buffer or a part of the line's bytes: under 20,000 digits, as the line has. All its other words, the longest
+    // being a nonce of 32 and a key of 56 bytes, stay under 200 bytes.
+    let mut out = [0u8; 24576];
+    let after = called(
+        owners,
+        rows,
+        doors,
+        record,
+        form,
+        words,
+        bytes,
+        lent,
+        &mut out,
+    );
+    let next = after.record;
+    let end = and_lent(&mut out, after.end, lends, lent);
+    let written = output::finish(&mut out, end, 1);
+    Ran {
+        record: next,
+        written,
     }
 }
 
-// Runs a line: its bytes go to first, second and third in the order of its words, its lent buffer to lent.
+// Runs a line. The forms stand here, one a line, and beside them the kinds of their words, a letter each:
+// n is a number, s one to 65,535, o one to 255, f a flag, t two hex digits, c a cipher, p ciphers, e those that are enabled, b bytes and l the lent buffer.
 fn run_line(
     owners: &mut [u8; ROWS],
     rows: &mut [[u8; ROW]; ROWS],
@@ -73,33 +119,98 @@ fn run_line(
     number: u64,
     line: &[u8],
     long: bool,
-) -> GenerationRecord {
+) -> Ran {
+    let forms = b"offer DOOR B A MANDATORY TEPS RESUME NONCE BUF
+answer DOOR AREA A MANDATORY TEPS NONCE BUF
+receive DOOR SYN ACK AREA
+resend DOOR BUF
+result DOOR BUF
+close DOOR
+store DOOR TEP ROLE IDENTIFIER SECRET
+forget DOOR TEP IDENTIFIER
+count DOOR
+erase
+find SYN AREA
+init1-write TEP CIPHERS NONCE KEY BUF
+init1-read TEP ENABLED BYTES
+init2-write TEP CIPHER NONCE KEY BUF
+init2-read TEP CIPHERS BYTES
+header-write REKEY LENGTH OFFSET BUF
+header-read OFFSET BYTES
+nonce OFFSET FIXED
+plaintext-write FIN URG URGENT DATA BUF
+plaintext-read BYTES
+generation LOCAL REMOTE LAST FIN
+send FIN
+initiate DATA FIN
+take REKEY
+owed
+help
+";
+    let kinds = b"noffbfbl
+nbffbbl
+nffb
+nl
+nl
+n
+ntobb
+ntb
+n
+
+fb
+tpbbl
+teb
+tcbbl
+tpb
+fnnl
+nb
+nb
+ffsbl
+b
+sssf
+f
+ff
+f
+
+
+";
+    let mut words = [0u64; 16];
+    let mut bytes = [0u8; 20000];
     // A line of 20,000 bytes has at most 10,000 bytes in hex.
-    let mut first = [0u8; 10000];
-    let mut second = [0u8; 10000];
-    let mut third = [0u8; 10000];
     let mut lent = [0u8; 10000];
-    let asked = parse::parse(line, long, &mut first, &mut second, &mut third, &mut lent);
-    // A reply has at most one word without a bound of its own, a lent buffer or a part of the line's bytes: under 20,000 digits, as the line has. All its other words, the longest
-    // being a nonce of 32 and a key of 56 bytes, stay under 200 bytes.
-    let mut out = [0u8; 24576];
-    run_command(
-        owners,
-        rows,
-        doors,
-        record,
-        number,
-        asked,
-        &first,
-        &second,
-        &third,
-        &mut lent,
-        &mut out,
-    )
+    let asked = lines::parse(line, long, forms, kinds, &mut words, &mut bytes, &mut lent);
+    match asked {
+        Asked::Nothing => Ran {
+            record,
+            written: true,
+        },
+        Asked::Help => {
+            let written = unfit::help(forms);
+            Ran { record, written }
+        }
+        Asked::Form { form, room, lends } => {
+            let n = text::within(room, &lent);
+            run_form(
+                owners,
+                rows,
+                doors,
+                record,
+                form,
+                lends,
+                &words,
+                &bytes,
+                &mut lent[0..n],
+            )
+        }
+        _ => {
+            let written = unfit::unfit(number, forms, asked);
+            Ran { record, written }
+        }
+    }
 }
 
-// Runs the input to its end. The unit and the generation record stand here.
-fn main() {
+// Runs the input to its end, or to a reply that cannot be written. The unit and the generation record stand here.
+fn run() {
     let mut owners = [0u8; ROWS];
     let row = [0u8; ROW];
     let mut rows = [row; ROWS];
@@ -108,7 +219,8 @@ fn main() {
     link_unit::erase(&mut owners, &mut rows, &mut doors);
     let mut record = generation::first_record();
     let mut chunk = [0u8; 65536];
-    let mut line = [0u8; 20000];
+    // A line's 20,000 bytes, and a carriage return.
+    let mut line = [0u8; 20001];
     let mut place = input::start();
     let mut number: u64 = 0;
     let mut turns = TURNS;
@@ -120,8 +232,8 @@ fn main() {
         place = input::advance(&mut chunk, &mut line, place);
         if place.whole {
             number = std::num::wrapping_add_u64(number, 1);
-            let words = text::part(&line, place.length);
-            record = run_line(
+            let words = text_lines::without_return(text_words::first(&line, place.length));
+            let ran = run_line(
                 &mut owners,
                 &mut rows,
                 &mut doors,
@@ -130,6 +242,22 @@ fn main() {
                 words,
                 place.long,
             );
+            if !ran.written {
+                output::failed();
+                return;
+            }
+            record = ran.record;
         }
     }
+}
+
+fn main() {
+    if 1 < os::arg_count() {
+        io::write_all(
+            2,
+            b"usage: console <LINES (it takes no arguments; docs/CONSOLE.md)\n",
+        );
+        return;
+    }
+    run();
 }

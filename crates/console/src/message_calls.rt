@@ -1,9 +1,18 @@
-// The finder, Init messages and frames: each call is made with the words of its line, and its reply is written.
-use crate::command::Message;
+// The finder, Init messages and frames: each call is made with the words of its line, by the number of its form, and its reply's words are put.
 use crate::message_replies;
-use crate::text::part;
-use crate::text::within;
-use init::Enabled;
+use crate::text::and_fault;
+use crate::text::and_hex;
+use crate::text::put;
+use crate::text::refuse;
+use crate::words::Listed;
+use crate::words::enabled_in;
+use crate::words::flag;
+use crate::words::number;
+use crate::words::short;
+use crate::words::small;
+use crate::words::taken;
+use answer_numbers::by_finder;
+use finder::FindStatus;
 ghost use Prim.Native.Nat.{_≤_};
 ghost use lib.ListN.{length};
 
@@ -27,164 +36,109 @@ fn listed(bytes: &[u8], into: &mut [u16]) -> usize
     i
 }
 
-fn init1_write(
-    tep: u8,
-    ciphers: &[u8],
-    nonce: &[u8],
-    key: &[u8],
-    room: usize,
-    lent: &mut [u8],
-    out: &mut [u8],
-) {
+fn found(out: &mut [u8], area: &[u8], syn: bool) -> usize {
+    let status = finder::find_status(area, syn);
+    match status {
+        FindStatus::Found => {
+            let at = put(out, 0, b"found");
+            and_hex(out, at, finder::find_option(area, syn))
+        }
+        FindStatus::Nothing => put(out, 0, b"none"),
+        FindStatus::Unreadable { place, kind } => {
+            let at = put(out, 0, b"unreadable");
+            and_fault(out, at, place, kind)
+        }
+        FindStatus::Refused => refuse(out, by_finder(status)),
+    }
+}
+
+fn find(words: &[u64], bytes: &[u8], out: &mut [u8]) -> usize {
+    found(out, taken(words, bytes, 1), flag(words, 0))
+}
+
+fn init1_write(words: &[u64], bytes: &[u8], lent: &mut [u8], out: &mut [u8]) -> usize {
     let mut list = [0u16; CIPHERS];
-    let count = listed(ciphers, &mut list);
-    let n = within(room, lent);
-    let answer = init::init1_write(tep, &list[0..count], nonce, key, &mut lent[0..n]);
-    message_replies::init_written(out, answer, part(lent, room));
+    let count = listed(taken(words, bytes, 1), &mut list);
+    let nonce = taken(words, bytes, 2);
+    let key = taken(words, bytes, 3);
+    let answer = init::init1_write(small(words, 0), &list[0..count], nonce, key, lent);
+    message_replies::init_written(out, answer)
 }
 
-fn init1_read(tep: u8, enabled: Enabled, bytes: &[u8], out: &mut [u8]) {
-    let read = init::init1_read(tep, enabled, bytes);
-    message_replies::init1_read(out, tep, read);
+fn init1_read(words: &[u64], bytes: &[u8], out: &mut [u8]) -> usize {
+    let tep = small(words, 0);
+    let list = enabled_in(taken(words, bytes, 1));
+    let Listed::Known(enabled) = list else {
+        return 0;
+    };
+    let read = init::init1_read(tep, enabled, taken(words, bytes, 2));
+    message_replies::init1_read(out, tep, read)
 }
 
-fn init2_write(
-    tep: u8,
-    cipher: u16,
-    nonce: &[u8],
-    key: &[u8],
-    room: usize,
-    lent: &mut [u8],
-    out: &mut [u8],
-) {
-    let n = within(room, lent);
-    let answer = init::init2_write(tep, cipher, nonce, key, &mut lent[0..n]);
-    message_replies::init_written(out, answer, part(lent, room));
+fn init2_write(words: &[u64], bytes: &[u8], lent: &mut [u8], out: &mut [u8]) -> usize {
+    let cipher = wire_numbers::read_u16(taken(words, bytes, 1), 0);
+    let nonce = taken(words, bytes, 2);
+    let key = taken(words, bytes, 3);
+    let answer = init::init2_write(small(words, 0), cipher, nonce, key, lent);
+    message_replies::init_written(out, answer)
 }
 
-fn init2_read(tep: u8, ciphers: &[u8], bytes: &[u8], out: &mut [u8]) {
+fn init2_read(words: &[u64], bytes: &[u8], out: &mut [u8]) -> usize {
+    let tep = small(words, 0);
     let mut list = [0u16; CIPHERS];
-    let count = listed(ciphers, &mut list);
-    let read = init::init2_read(tep, &list[0..count], bytes);
-    message_replies::init2_read(out, tep, read);
+    let count = listed(taken(words, bytes, 1), &mut list);
+    let read = init::init2_read(tep, &list[0..count], taken(words, bytes, 2));
+    message_replies::init2_read(out, tep, read)
 }
 
-fn header_write(
-    rekey: bool,
-    clen: usize,
-    offset: u64,
-    room: usize,
-    lent: &mut [u8],
-    out: &mut [u8],
-) {
-    let n = within(room, lent);
-    let answer = frame::write_header(rekey, clen, offset, &mut lent[0..n]);
-    message_replies::header_written(out, answer, part(lent, room));
+fn header_write(words: &[u64], lent: &mut [u8], out: &mut [u8]) -> usize {
+    let length = number(words, 1) as usize;
+    let answer = frame::write_header(flag(words, 0), length, number(words, 2), lent);
+    message_replies::header_written(out, answer)
 }
 
-fn plaintext_write(
-    fin: bool,
-    urg: bool,
-    urgent: u16,
-    payload: &[u8],
-    room: usize,
-    lent: &mut [u8],
-    out: &mut [u8],
-) {
-    let n = within(room, lent);
-    let answer = frame::write_plaintext(fin, urg, urgent, payload, &mut lent[0..n]);
-    message_replies::plaintext_written(out, answer, part(lent, room));
+fn header_read(words: &[u64], bytes: &[u8], out: &mut [u8]) -> usize {
+    let read = frame::read_header(taken(words, bytes, 1), number(words, 0));
+    message_replies::header_read(out, read)
 }
 
-// Makes a call and writes its reply. The bytes of its words stand in first, second and third, in order, and its buffer in lent.
-pub fn call(
-    message: Message,
-    first: &[u8],
-    second: &[u8],
-    third: &[u8],
-    lent: &mut [u8],
-    out: &mut [u8],
-) {
-    match message {
-        Message::Find { syn, area } => {
-            message_replies::found(out, part(first, area), syn);
-        }
-        Message::Init1Write {
-            tep,
-            ciphers,
-            nonce,
-            key,
-            room,
-        } => {
-            init1_write(
-                tep,
-                part(first, ciphers),
-                part(second, nonce),
-                part(third, key),
-                room,
-                lent,
-                out,
-            );
-        }
-        Message::Init1Read {
-            tep,
-            enabled,
-            bytes,
-        } => {
-            init1_read(tep, enabled, part(second, bytes), out);
-        }
-        Message::Init2Write {
-            tep,
-            cipher,
-            nonce,
-            key,
-            room,
-        } => {
-            init2_write(
-                tep,
-                cipher,
-                part(first, nonce),
-                part(second, key),
-                room,
-                lent,
-                out,
-            );
-        }
-        Message::Init2Read {
-            tep,
-            ciphers,
-            bytes,
-        } => {
-            init2_read(tep, part(first, ciphers), part(second, bytes), out);
-        }
-        Message::HeaderWrite {
-            rekey,
-            clen,
-            offset,
-            room,
-        } => {
-            header_write(rekey, clen, offset, room, lent, out);
-        }
-        Message::HeaderRead { offset, bytes } => {
-            let read = frame::read_header(part(first, bytes), offset);
-            message_replies::header_read(out, read);
-        }
-        Message::Nonce { offset, fixed } => {
-            let made = frame::nonce(part(first, fixed), offset);
-            message_replies::nonce(out, offset, made);
-        }
-        Message::PlaintextWrite {
-            fin,
-            urg,
-            urgent,
-            payload,
-            room,
-        } => {
-            plaintext_write(fin, urg, urgent, part(first, payload), room, lent, out);
-        }
-        Message::PlaintextRead { bytes } => {
-            let read = frame::read_plaintext(part(first, bytes));
-            message_replies::plaintext_read(out, read, part(first, bytes));
-        }
+fn nonce(words: &[u64], bytes: &[u8], out: &mut [u8]) -> usize {
+    let offset = number(words, 0);
+    let made = frame::nonce(taken(words, bytes, 1), offset);
+    message_replies::nonce(out, offset, made)
+}
+
+fn plaintext_write(words: &[u64], bytes: &[u8], lent: &mut [u8], out: &mut [u8]) -> usize {
+    let payload = taken(words, bytes, 3);
+    let answer = frame::write_plaintext(
+        flag(words, 0),
+        flag(words, 1),
+        short(words, 2),
+        payload,
+        lent,
+    );
+    message_replies::plaintext_written(out, answer)
+}
+
+fn plaintext_read(words: &[u64], bytes: &[u8], out: &mut [u8]) -> usize {
+    let whole = taken(words, bytes, 0);
+    let read = frame::read_plaintext(whole);
+    message_replies::plaintext_read(out, read, whole)
+}
+
+// Makes a call and puts its reply's words. No other number is a form of these.
+pub fn call(form: usize, words: &[u64], bytes: &[u8], lent: &mut [u8], out: &mut [u8]) -> usize {
+    match form {
+        10 => find(words, bytes, out),
+        11 => init1_write(words, bytes, lent, out),
+        12 => init1_read(words, bytes, out),
+        13 => init2_write(words, bytes, lent, out),
+        14 => init2_read(words, bytes, out),
+        15 => header_write(words, lent, out),
+        16 => header_read(words, bytes, out),
+        17 => nonce(words, bytes, out),
+        18 => plaintext_write(words, bytes, lent, out),
+        19 => plaintext_read(words, bytes, out),
+        _ => 0,
     }
 }

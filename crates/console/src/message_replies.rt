@@ -1,17 +1,12 @@
-// The line that an answer of the finder, of an Init message or of a frame becomes.
-use crate::refused;
+// The words that an answer of an Init message or of a frame becomes.
 use crate::text::and_cipher;
-use crate::text::and_fault;
-use crate::text::and_flag;
 use crate::text::and_hex;
-use crate::text::and_number;
-use crate::text::finish;
-use crate::text::finish_lent;
-use crate::text::part;
+use crate::text::bit;
 use crate::text::put;
 use crate::text::put_counted;
+use crate::text::put_numbers;
+use crate::text::refuse;
 use eno::Tep;
-use finder::FindStatus;
 use frame::HeaderRead;
 use frame::HeaderSays;
 use frame::HeaderWritten;
@@ -23,62 +18,24 @@ use init::InitAnswer;
 use init::InitRead;
 use init::InitWritten;
 
-fn refuse(out: &mut [u8], number: u64) {
-    let at = put_counted(out, b"refused", number);
-    finish(out, at, 1);
-}
-
-fn refuse_lent(out: &mut [u8], number: u64, lent: &[u8]) {
-    let at = put_counted(out, b"refused", number);
-    finish_lent(out, at, lent);
-}
-
-fn written(out: &mut [u8], n: usize, lent: &[u8]) {
-    let at = put_counted(out, b"written", n as u64);
-    finish_lent(out, at, lent);
-}
-
-pub fn found(out: &mut [u8], area: &[u8], syn: bool) {
-    let status = finder::find_status(area, syn);
-    match status {
-        FindStatus::Found => {
-            let at = put(out, 0, b"found");
-            let end = and_hex(out, at, finder::find_option(area, syn));
-            finish(out, end, 1);
-        }
-        FindStatus::Nothing => {
-            let at = put(out, 0, b"none");
-            finish(out, at, 1);
-        }
-        FindStatus::Unreadable { place, kind } => {
-            let at = put(out, 0, b"unreadable");
-            let end = and_fault(out, at, place, kind);
-            finish(out, end, 1);
-        }
-        FindStatus::Refused => {
-            refuse(out, refused::by_finder(status));
-        }
-    }
-}
-
-pub fn init_written(out: &mut [u8], answer: InitWritten, lent: &[u8]) {
+pub fn init_written(out: &mut [u8], answer: InitWritten) -> usize {
     let InitWritten::Written(n) = answer else {
-        refuse_lent(out, refused::by_init_writer(answer), lent);
-        return;
+        return refuse(out, answer_numbers::by_init_writer(answer));
     };
-    written(out, n, lent);
+    put_counted(out, b"written", n as u64)
 }
 
 // The words that both messages end with; of the key as many bytes as the TEP's keys have.
-fn finish_init(out: &mut [u8], at: usize, cipher: u16, tep: u8, nonce: &[u8], key: &[u8]) {
+fn and_init(out: &mut [u8], at: usize, cipher: u16, tep: u8, read: InitRead) -> usize {
+    let nonce = read.nonce;
+    let key = read.key;
     let named = Tep::of(tep);
     let after_cipher = and_cipher(out, at, cipher);
-    let after_nonce = and_hex(out, after_cipher, nonce);
-    let end = and_hex(out, after_nonce, part(key, named.key_length));
-    finish(out, end, 1);
+    let after_nonce = and_hex(out, after_cipher, &nonce);
+    and_hex(out, after_nonce, text_words::first(&key, named.key_length))
 }
 
-pub fn init1_read(out: &mut [u8], tep: u8, read: InitRead) {
+pub fn init1_read(out: &mut [u8], tep: u8, read: InitRead) -> usize {
     let answer = read.answer;
     let InitAnswer::Read {
         cipher,
@@ -86,17 +43,14 @@ pub fn init1_read(out: &mut [u8], tep: u8, read: InitRead) {
         length,
     } = answer
     else {
-        refuse(out, refused::by_init_reader(answer));
-        return;
+        return refuse(out, answer_numbers::by_init_reader(answer));
     };
-    let nonce = read.nonce;
-    let key = read.key;
-    let after_length = put_counted(out, b"init1", length as u64);
-    let after_count = and_number(out, after_length, count as u64);
-    finish_init(out, after_count, cipher, tep, &nonce, &key);
+    let numbers = [length as u64, count as u64];
+    let at = put_numbers(out, b"init1", &numbers);
+    and_init(out, at, cipher, tep, read)
 }
 
-pub fn init2_read(out: &mut [u8], tep: u8, read: InitRead) {
+pub fn init2_read(out: &mut [u8], tep: u8, read: InitRead) -> usize {
     let answer = read.answer;
     let InitAnswer::Read {
         cipher,
@@ -104,65 +58,52 @@ pub fn init2_read(out: &mut [u8], tep: u8, read: InitRead) {
         length,
     } = answer
     else {
-        refuse(out, refused::by_init_reader(answer));
-        return;
+        return refuse(out, answer_numbers::by_init_reader(answer));
     };
-    let nonce = read.nonce;
-    let key = read.key;
-    let after_length = put_counted(out, b"init2", length as u64);
-    finish_init(out, after_length, cipher, tep, &nonce, &key);
+    let at = put_counted(out, b"init2", length as u64);
+    and_init(out, at, cipher, tep, read)
 }
 
 // A header has three bytes.
-pub fn header_written(out: &mut [u8], answer: HeaderWritten, lent: &[u8]) {
+pub fn header_written(out: &mut [u8], answer: HeaderWritten) -> usize {
     let HeaderWritten::Next(next) = answer else {
-        refuse_lent(out, refused::by_header_writer(answer), lent);
-        return;
+        return refuse(out, answer_numbers::by_header_writer(answer));
     };
-    let at = put(out, 0, b"written 3");
-    let after_next = and_number(out, at, next);
-    finish_lent(out, after_next, lent);
+    put_counted(out, b"written 3", next)
 }
 
-pub fn header_read(out: &mut [u8], read: HeaderRead) {
+pub fn header_read(out: &mut [u8], read: HeaderRead) -> usize {
     let says = read.says;
     let HeaderSays::Header { rekey, clen, next } = says else {
-        refuse(out, refused::by_header_reader(says));
-        return;
+        return refuse(out, answer_numbers::by_header_reader(says));
     };
     let associated = read.associated;
-    let at = put(out, 0, b"header");
-    let after_rekey = and_flag(out, at, rekey);
-    let after_length = and_number(out, after_rekey, clen as u64);
-    let after_next = and_number(out, after_length, next);
-    let end = and_hex(out, after_next, &associated);
-    finish(out, end, 1);
+    let numbers = [bit(rekey), clen as u64, next];
+    let at = put_numbers(out, b"header", &numbers);
+    and_hex(out, at, &associated)
 }
 
 // The frame ID at an offset, and the nonce that was made of it.
-pub fn nonce(out: &mut [u8], offset: u64, made: NonceMade) {
+pub fn nonce(out: &mut [u8], offset: u64, made: NonceMade) -> usize {
     let says = made.says;
     let NonceSays::Made = says else {
-        refuse(out, refused::by_nonce(says));
-        return;
+        return refuse(out, answer_numbers::by_nonce(says));
     };
     let id = frame::frame_id(offset);
     let bytes = made.nonce;
     let at = put(out, 0, b"nonce");
     let after_id = and_hex(out, at, &id);
-    let end = and_hex(out, after_id, &bytes);
-    finish(out, end, 1);
+    and_hex(out, after_id, &bytes)
 }
 
-pub fn plaintext_written(out: &mut [u8], answer: PlaintextWritten, lent: &[u8]) {
+pub fn plaintext_written(out: &mut [u8], answer: PlaintextWritten) -> usize {
     let PlaintextWritten::Wrote(n) = answer else {
-        refuse_lent(out, refused::by_plaintext_writer(answer), lent);
-        return;
+        return refuse(out, answer_numbers::by_plaintext_writer(answer));
     };
-    written(out, n, lent);
+    put_counted(out, b"written", n as u64)
 }
 
-pub fn plaintext_read(out: &mut [u8], answer: PlaintextRead, bytes: &[u8]) {
+pub fn plaintext_read(out: &mut [u8], answer: PlaintextRead, bytes: &[u8]) -> usize {
     let PlaintextRead::Plaintext {
         fin,
         urg,
@@ -170,13 +111,9 @@ pub fn plaintext_read(out: &mut [u8], answer: PlaintextRead, bytes: &[u8]) {
         data_at,
     } = answer
     else {
-        refuse(out, refused::by_plaintext_reader(answer));
-        return;
+        return refuse(out, answer_numbers::by_plaintext_reader(answer));
     };
-    let at = put(out, 0, b"plaintext");
-    let after_fin = and_flag(out, at, fin);
-    let after_urg = and_flag(out, after_fin, urg);
-    let after_urgent = and_number(out, after_urg, urgent as u64);
-    let end = and_hex(out, after_urgent, text_words::from(bytes, data_at));
-    finish(out, end, 1);
+    let numbers = [bit(fin), bit(urg), urgent as u64];
+    let at = put_numbers(out, b"plaintext", &numbers);
+    and_hex(out, at, text_words::from(bytes, data_at))
 }

@@ -1,14 +1,7 @@
-// Parts of buffers, and lines made in one: a word behind each space, and the line's end. What does not fit is left out; a reply always fits.
+// Parts of buffers, and lines made in one: a word behind each space. What does not fit is left out; a reply always fits.
 ghost use mathlib.Core.Path.{_≡_};
-ghost use Prim.Native.Nat.{_≤_, _<_, min};
-ghost use lib.ListN.{length, take};
-
-// The first n bytes of s, all of them where it has fewer.
-pub fn part(s: &[u8], n: usize) -> &[u8]
-    ensures { λ r. ⌜ now r ≡ take n (now (s .entry)) ⌝ }
-{
-    text_words::first(s, n)
-}
+ghost use Prim.Native.Nat.{_≤_, min};
+ghost use lib.ListN.{length};
 
 // How many bytes the first n of s are.
 pub fn within(n: usize, s: &[u8]) -> usize
@@ -24,17 +17,28 @@ pub fn put(out: &mut [u8], at: usize, text: &[u8]) -> usize {
     text_words::put(out, at, text)
 }
 
+// A flag is written as a number.
+pub fn bit(flag: bool) -> u64 {
+    if flag {
+        return 1;
+    }
+    0
+}
+
 // Each of these puts a space, then the word.
 pub fn and_number(out: &mut [u8], at: usize, n: u64) -> usize {
     let next = put(out, at, b" ");
     text_words::put_number(out, next, n)
 }
 
-pub fn and_flag(out: &mut [u8], at: usize, flag: bool) -> usize {
-    if flag {
-        return put(out, at, b" 1");
+pub fn and_numbers(out: &mut [u8], at: usize, numbers: &[u64]) -> usize {
+    let mut end = at;
+    let mut i = 0;
+    while i < numbers.len() {
+        end = and_number(out, end, numbers[i]);
+        i += 1;
     }
-    put(out, at, b" 0")
+    end
 }
 
 pub fn and_hex(out: &mut [u8], at: usize, bytes: &[u8]) -> usize {
@@ -56,20 +60,17 @@ pub fn and_fault(out: &mut [u8], at: usize, place: u8, kind: u8) -> usize {
     and_hex(out, after_place, &byte)
 }
 
-// A word and a number, at the start.
+// A word and a number, or several, at the start.
 pub fn put_counted(out: &mut [u8], word: &[u8], n: u64) -> usize {
     let at = put(out, 0, word);
     and_number(out, at, n)
 }
 
-// Ends the line and writes it.
-pub fn finish(out: &mut [u8], at: usize, fd: i32) {
-    let end = put(out, at, b"\n");
-    io::write_all(fd, part(out, end));
+pub fn put_numbers(out: &mut [u8], word: &[u8], numbers: &[u64]) -> usize {
+    let at = put(out, 0, word);
+    and_numbers(out, at, numbers)
 }
 
-// A lent buffer stands last in its line.
-pub fn finish_lent(out: &mut [u8], at: usize, lent: &[u8]) {
-    let end = and_hex(out, at, lent);
-    finish(out, end, 1);
+pub fn refuse(out: &mut [u8], number: u64) -> usize {
+    put_counted(out, b"refused", number)
 }

@@ -1,15 +1,9 @@
-// The calls on the unit, which is lent: each is made with the words of its line, and its reply is written.
-use crate::command::Answer;
-use crate::command::Ask;
-use crate::command::Forget;
-use crate::command::Look;
-use crate::command::Offer;
-use crate::command::Receive;
-use crate::command::Store;
-use crate::text::part;
-use crate::text::within;
-use crate::texts::text;
-use crate::unit_replies;
+// The calls on the unit, which is lent: each is made with the words of its line, by the number of its form.
+use crate::unit_replies::put_reply;
+use crate::words::flag;
+use crate::words::number;
+use crate::words::small;
+use crate::words::taken;
 use door::Reply;
 use link_unit::DOORS;
 use link_unit::PLACE;
@@ -20,24 +14,22 @@ fn offer(
     owners: &mut [u8; ROWS],
     rows: &mut [[u8; ROW]; ROWS],
     doors: &mut [[u8; PLACE]; DOORS],
-    words: Offer,
-    first: &[u8],
-    second: &[u8],
+    words: &[u64],
+    bytes: &[u8],
     lent: &mut [u8],
 ) -> Reply {
-    let n = within(words.room, lent);
     link_unit::offer(
         owners,
         rows,
         doors,
-        words.door,
-        words.b,
-        words.aware,
-        words.mandatory,
-        part(first, words.teps),
-        words.resume,
-        part(second, words.nonce),
-        &mut lent[0..n],
+        number(words, 0) as usize,
+        small(words, 1),
+        flag(words, 2),
+        flag(words, 3),
+        taken(words, bytes, 4),
+        flag(words, 5),
+        taken(words, bytes, 6),
+        lent,
     )
 }
 
@@ -45,24 +37,21 @@ fn answer(
     owners: &mut [u8; ROWS],
     rows: &mut [[u8; ROW]; ROWS],
     doors: &mut [[u8; PLACE]; DOORS],
-    words: Answer,
-    first: &[u8],
-    second: &[u8],
-    third: &[u8],
+    words: &[u64],
+    bytes: &[u8],
     lent: &mut [u8],
 ) -> Reply {
-    let n = within(words.room, lent);
     link_unit::answer(
         owners,
         rows,
         doors,
-        words.door,
-        part(first, words.area),
-        words.aware,
-        words.mandatory,
-        part(second, words.teps),
-        part(third, words.nonce),
-        &mut lent[0..n],
+        number(words, 0) as usize,
+        taken(words, bytes, 1),
+        flag(words, 2),
+        flag(words, 3),
+        taken(words, bytes, 4),
+        taken(words, bytes, 5),
+        lent,
     )
 }
 
@@ -70,30 +59,38 @@ fn receive(
     owners: &[u8; ROWS],
     rows: &[[u8; ROW]; ROWS],
     doors: &mut [[u8; PLACE]; DOORS],
-    words: Receive,
-    first: &[u8],
+    words: &[u64],
+    bytes: &[u8],
 ) -> Reply {
-    let area = part(first, words.area);
-    link_unit::receive(owners, rows, doors, words.door, words.syn, words.ack, area)
+    let door = number(words, 0) as usize;
+    let area = taken(words, bytes, 3);
+    link_unit::receive(
+        owners,
+        rows,
+        doors,
+        door,
+        flag(words, 1),
+        flag(words, 2),
+        area,
+    )
 }
 
 fn store(
     owners: &mut [u8; ROWS],
     rows: &mut [[u8; ROW]; ROWS],
     doors: &mut [[u8; PLACE]; DOORS],
-    words: Store,
-    first: &[u8],
-    second: &[u8],
+    words: &[u64],
+    bytes: &[u8],
 ) -> Reply {
     link_unit::store(
         owners,
         rows,
         doors,
-        words.door,
-        words.tep,
-        words.role,
-        part(first, words.identifier),
-        part(second, words.secret),
+        number(words, 0) as usize,
+        small(words, 1),
+        small(words, 2),
+        taken(words, bytes, 3),
+        taken(words, bytes, 4),
     )
 }
 
@@ -101,123 +98,83 @@ fn forget(
     owners: &mut [u8; ROWS],
     rows: &mut [[u8; ROW]; ROWS],
     doors: &mut [[u8; PLACE]; DOORS],
-    words: Forget,
-    first: &[u8],
+    words: &[u64],
+    bytes: &[u8],
 ) -> Reply {
-    let identifier = part(first, words.identifier);
-    link_unit::forget(owners, rows, doors, words.door, words.tep, identifier)
+    let door = number(words, 0) as usize;
+    link_unit::forget(
+        owners,
+        rows,
+        doors,
+        door,
+        small(words, 1),
+        taken(words, bytes, 2),
+    )
 }
 
+// The last arm is form 7.
 fn made(
     owners: &mut [u8; ROWS],
     rows: &mut [[u8; ROW]; ROWS],
     doors: &mut [[u8; PLACE]; DOORS],
-    asked: Ask,
-    first: &[u8],
-    second: &[u8],
-    third: &[u8],
+    form: usize,
+    words: &[u64],
+    bytes: &[u8],
     lent: &mut [u8],
 ) -> Reply {
-    match asked {
-        Ask::Offer(words) => offer(owners, rows, doors, words, first, second, lent),
-        Ask::Answer(words) => answer(owners, rows, doors, words, first, second, third, lent),
-        Ask::Receive(words) => receive(owners, rows, doors, words, first),
-        Ask::Close(door) => link_unit::close(owners, rows, doors, door),
-        Ask::Store(words) => store(owners, rows, doors, words, first, second),
-        Ask::Forget(words) => forget(owners, rows, doors, words, first),
-        Ask::Erase => link_unit::erase(owners, rows, doors),
+    match form {
+        0 => offer(owners, rows, doors, words, bytes, lent),
+        1 => answer(owners, rows, doors, words, bytes, lent),
+        2 => receive(owners, rows, doors, words, bytes),
+        3 => link_unit::resend(owners, rows, doors, number(words, 0) as usize, lent),
+        5 => link_unit::close(owners, rows, doors, number(words, 0) as usize),
+        8 => link_unit::count(owners, rows, doors, number(words, 0) as usize),
+        9 => link_unit::erase(owners, rows, doors),
+        6 => store(owners, rows, doors, words, bytes),
+        _ => forget(owners, rows, doors, words, bytes),
     }
 }
 
 // The place, in the list of call, of the word for a call that has nothing else to say.
-fn done_number(asked: Ask) -> usize {
-    match asked {
-        Ask::Offer(words) => 0,
-        Ask::Answer(words) => 0,
-        Ask::Receive(words) => 0,
-        Ask::Close(door) => 1,
-        Ask::Store(words) => 2,
-        Ask::Forget(words) => 3,
-        Ask::Erase => 4,
+fn done_place(form: usize) -> usize {
+    match form {
+        5 => 0,
+        6 => 7,
+        7 => 14,
+        _ => 24,
     }
 }
 
-// Makes a call that may change the unit and writes its reply. The bytes of its words stand in first, second and third, in order, and its buffer in lent.
-pub fn call(
-    owners: &mut [u8; ROWS],
-    rows: &mut [[u8; ROW]; ROWS],
-    doors: &mut [[u8; PLACE]; DOORS],
-    asked: Ask,
-    first: &[u8],
-    second: &[u8],
-    third: &[u8],
-    lent: &mut [u8],
-    out: &mut [u8],
-) {
-    let answer = made(owners, rows, doors, asked, first, second, third, lent);
-    match asked {
-        Ask::Offer(words) => {
-            unit_replies::with_buffer(out, answer, part(lent, words.room));
-        }
-        Ask::Answer(words) => {
-            unit_replies::with_buffer(out, answer, part(lent, words.room));
-        }
-        _ => {
-            let words = b"\nclosed\nstored\nforgotten\nerased\n";
-            unit_replies::plainly(out, answer, text(words, done_number(asked)));
-        }
-    }
-}
-
-fn resend(
-    owners: &[u8; ROWS],
-    rows: &[[u8; ROW]; ROWS],
-    doors: &[[u8; PLACE]; DOORS],
-    door: usize,
-    room: usize,
-    lent: &mut [u8],
-    out: &mut [u8],
-) {
-    let n = within(room, lent);
-    let answer = link_unit::resend(owners, rows, doors, door, &mut lent[0..n]);
-    unit_replies::with_buffer(out, answer, part(lent, room));
-}
-
+// The result, with a resumed session's secret.
 fn result(
     owners: &[u8; ROWS],
     rows: &[[u8; ROW]; ROWS],
     doors: &[[u8; PLACE]; DOORS],
-    door: usize,
-    room: usize,
+    words: &[u64],
     lent: &mut [u8],
     out: &mut [u8],
-) {
-    let n = within(room, lent);
-    let told = link_unit::result(owners, rows, doors, door, &mut lent[0..n]);
-    let answer = told.reply;
+) -> usize {
+    let told = link_unit::result(owners, rows, doors, number(words, 0) as usize, lent);
+    let reply = told.reply;
     let secret = told.secret;
-    unit_replies::with_secret(out, answer, secret, part(lent, room));
+    put_reply(out, reply, b"", &secret)
 }
 
-// Makes a call that leaves the unit as it is, and writes its reply.
-pub fn look(
-    owners: &[u8; ROWS],
-    rows: &[[u8; ROW]; ROWS],
-    doors: &[[u8; PLACE]; DOORS],
-    asked: Look,
+// Makes a call and puts its reply's words.
+pub fn call(
+    owners: &mut [u8; ROWS],
+    rows: &mut [[u8; ROW]; ROWS],
+    doors: &mut [[u8; PLACE]; DOORS],
+    form: usize,
+    words: &[u64],
+    bytes: &[u8],
     lent: &mut [u8],
     out: &mut [u8],
-) {
-    match asked {
-        Look::Resend { door, room } => {
-            resend(owners, rows, doors, door, room, lent, out);
-        }
-        Look::Result { door, room } => {
-            result(owners, rows, doors, door, room, lent, out);
-        }
-        Look::Count { door } => {
-            let answer = link_unit::count(owners, rows, doors, door);
-            unit_replies::plainly(out, answer, b"");
-        }
+) -> usize {
+    if form == 4 {
+        return result(owners, rows, doors, words, lent, out);
     }
+    let reply = made(owners, rows, doors, form, words, bytes, lent);
+    let done = b"closed stored forgotten erased";
+    put_reply(out, reply, text_words::word(done, done_place(form)), b"")
 }

@@ -1,32 +1,30 @@
-// The line that a reply of the unit becomes.
-use crate::refused::by_unit;
+// The words that a reply of the unit becomes.
 use crate::text::and_fault;
 use crate::text::and_hex;
 use crate::text::and_number;
-use crate::text::finish;
-use crate::text::finish_lent;
 use crate::text::put;
 use crate::text::put_counted;
-use crate::texts::text;
+use crate::text::refuse;
+use answer_numbers::by_unit;
 use door::Phase;
 use door::Reply;
 use eno::Cause;
 
 // The place of a phase in the list of put_phase.
-fn phase_number(phase: Phase) -> usize {
+fn phase_place(phase: Phase) -> usize {
     match phase {
         Phase::Idle => 0,
-        Phase::Offered => 1,
-        Phase::Crossed => 2,
-        Phase::Answered => 3,
-        Phase::Open => 4,
-        Phase::Plain => 5,
+        Phase::Offered => 5,
+        Phase::Crossed => 13,
+        Phase::Answered => 21,
+        Phase::Open => 30,
+        Phase::Plain => 35,
     }
 }
 
 fn put_phase(out: &mut [u8], phase: Phase) -> usize {
-    let phases = b"idle\noffered\ncrossed\nanswered\nopen\nplain\n";
-    put(out, 0, text(phases, phase_number(phase)))
+    let phases = b"idle offered crossed answered open plain";
+    put(out, 0, text_words::word(phases, phase_place(phase)))
 }
 
 fn put_way(out: &mut [u8], at: usize, resumed: bool, secret: &[u8]) -> usize {
@@ -62,12 +60,9 @@ fn put_plain(out: &mut [u8], cause: Cause) -> usize {
 }
 
 // The reply's words; `done` stands for a call that has nothing else to say.
-fn put_reply(out: &mut [u8], reply: Reply, done: &[u8], secret: &[u8]) -> usize {
+pub fn put_reply(out: &mut [u8], reply: Reply, done: &[u8], secret: &[u8]) -> usize {
     match reply {
-        Reply::Refused(refusal) => {
-            let number = by_unit(refusal);
-            put_counted(out, b"refused", number)
-        }
+        Reply::Refused(refusal) => refuse(out, by_unit(refusal)),
         Reply::Written(n) => put_counted(out, b"written", n as u64),
         Reply::Plain(cause) => put_plain(out, cause),
         Reply::Now(phase) => put_phase(out, phase),
@@ -80,21 +75,4 @@ fn put_reply(out: &mut [u8], reply: Reply, done: &[u8], secret: &[u8]) -> usize 
         Reply::Done => put(out, 0, done),
         Reply::Holds(n) => put_counted(out, b"holds", n as u64),
     }
-}
-
-// The reply of a call without a lent buffer.
-pub fn plainly(out: &mut [u8], reply: Reply, done: &[u8]) {
-    let at = put_reply(out, reply, done, b"");
-    finish(out, at, 1);
-}
-
-// The reply of a call with a lent buffer, which comes last.
-pub fn with_buffer(out: &mut [u8], reply: Reply, lent: &[u8]) {
-    let at = put_reply(out, reply, b"", b"");
-    finish_lent(out, at, lent);
-}
-
-pub fn with_secret(out: &mut [u8], reply: Reply, secret: [u8; 32], lent: &[u8]) {
-    let at = put_reply(out, reply, b"", &secret);
-    finish_lent(out, at, lent);
 }

@@ -10,9 +10,10 @@ use lib.ListN.{length, take, drop}
 use denote.Enum.Declared
 use Rattle.wire.specs.Bytes.{part}
 use Rattle.eno.specs.Area.{partOf, finding, status}
-use Rattle.finder.specs.Answers.{findingOf, Within, Locates, startOf}
-use Rattle.finder.specs.declared.Located.{Located}
-use Rattle.finder.specs.declared.Located.the-variants as located
+use Rattle.area_walk.specs.Answers.{findingOf, Within, Locates}
+use Rattle.finder.specs.Answers.{startOf}
+use Rattle.area_walk.specs.declared.Located.{Located}
+use Rattle.area_walk.specs.declared.Located.the-variants as located
 
 module _ (s : List ℕ) (syn : Bool) (r : Located) (l : Locates s syn r) where
   pub found-within : (i k : ℕ) → r ≡ located.Found i k → i + k ≤ length s
@@ -32,7 +33,7 @@ module _ (s : List ℕ) (syn : Bool) (r : Located) (l : Locates s syn r) where
   told x e = ap (λ y. status (findingOf y)) (sym e) ∙ ap status (l .right)
 
 abbrev pub tag : Located → ℕ
-tag r = Declared.tagOf (Declared.declared Rattle.finder.proofs.Located.enum) r
+tag r = Declared.tagOf (Declared.declared Rattle.area_walk.proofs.Located.enum) r
 
 pub no-bytes : (s : List ℕ) (syn : Bool) (r : Located) → Locates s syn r
     → (tag r ≡ 0) ⊎ ((tag r ≡ 1) ⊎ (tag r ≡ 2)) → [] ≡ partOf s (finding s syn)

@@ -1,41 +1,9 @@
 -- The answers of the finder, in the terms of the definitions.
-use Prim.Native.Nat.{ℕ, _+_, _≤_}
+use Prim.Native.Nat.{ℕ}
 use mathlib.Core.Path.{_≡_, refl, sym, _∙_, ap}
-use mathlib.Core.List.{List}
-use mathlib.Core.Bool.{Bool}
-use lib.ListN.{length}
-use Rattle.eno.specs.Walk.{Piece, end, fault, item}
-use Rattle.eno.specs.Area.{Placed, Fault, Finding, refused, unreadable, missing, found, finding, Status, saysFound, saysNone, saysUnreadable, saysRefused}
-use Rattle.finder.specs.declared.OptionAt.{OptionAt}
-use Rattle.finder.specs.declared.OptionAt.the-variants as at
-use Rattle.finder.specs.declared.Located.{Located}
-use Rattle.finder.specs.declared.Located.the-variants as located
+use Rattle.eno.specs.Area.{Finding, refused, unreadable, missing, found, Status, saysFound, saysNone, saysUnreadable, saysRefused}
 use Rattle.finder.specs.declared.FindStatus.{FindStatus}
 use Rattle.finder.specs.declared.FindStatus.the-variants as says
-
--- what stands at place i
-abbrev pub pieceOf : ℕ → OptionAt → Piece Fault Placed
-pieceOf i at.End = end
-pieceOf i (at.Fault k) = fault (record { place = i; kind = k })
-pieceOf i (at.Item k n j) = item (record { kind = k; start = i; len = n }) j
-
-abbrev pub findingOf : Located → Finding
-findingOf located.Refused = refused
-findingOf (located.Unreadable i k) = unreadable (record { place = i; kind = k })
-findingOf located.Missing = missing
-findingOf (located.Found i n) = found i n
-
--- an option that is found lies within n bytes
-abbrev pub Within : ℕ → Finding → Type 0
-Within n refused = Unit {0}
-Within n (unreadable f) = Unit {0}
-Within n missing = Unit {0}
-Within n (found i k) = i + k ≤ n
-
--- what `locate` promises
-pub record Locates (s : List ℕ) (syn : Bool) (r : Located) : Type 0 where
-  pub right : findingOf r ≡ finding s syn
-  pub within : Within (length s) (findingOf r)
 
 -- document 01's word, and its number where it refuses
 abbrev pub statusOf : FindStatus → Status

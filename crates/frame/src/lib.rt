@@ -1,5 +1,4 @@
 // Encryption frames: headers, offsets, frame IDs, nonces and plaintexts, for any bytes and any lent buffer: the calls and what they answer.
-pub use frame_header::next_offset;
 pub use frame_header::read_header;
 pub use frame_header::write_header;
 pub use frame_layout::HeaderRead;
@@ -12,5 +11,6 @@ pub use frame_layout::PlaintextRead;
 pub use frame_layout::PlaintextWritten;
 pub use frame_nonce::frame_id;
 pub use frame_nonce::nonce;
+pub use frame_offset::next_offset;
 pub use frame_plaintext::read_plaintext;
 pub use frame_plaintext::write_plaintext;

@@ -13,7 +13,7 @@ use Rattle.refusals.specs.Rows.{refusal}
 use Rattle.frame_layout.specs.Layout as layout
 use Rattle.frame_layout.specs.Layout.{bit0, controlSent, associated, nextOffset, noFrame}
 use Rattle.frame_layout.specs.Outcome.{unless}
-use Rattle.frame_header.proofs.Next.{none-told, next-told}
+use Rattle.frame_offset.proofs.Next.{none-told, next-told}
 use Rattle.frame_layout.specs.Calls.{next, writeHeader, readHeader, lengthIn, headerIn, headerOut, outcome}
 use Rattle.frame_layout.specs.Answers.{nextTold, headerWritten, headerTold}
 use Rattle.frame_layout.specs.declared.NextOffset.the-variants as n

@@ -1,4 +1,4 @@
-// Frame headers, written and read, and the offset of the next frame.
+// Frame headers, written and read.
 use frame_layout::HeaderRead;
 use frame_layout::HeaderSays;
 use frame_layout::HeaderWritten;
@@ -11,24 +11,7 @@ ghost use Rattle.wire.specs.Bytes.{pasted};
 ghost use Rattle.wire.specs.Number.{bigEndian};
 ghost use Rattle.frame_layout.specs.Layout.{controlSent};
 ghost use Rattle.frame_layout.specs.Calls.{Ask, outcome};
-ghost use Rattle.frame_layout.specs.Answers.{nextTold, headerWritten, headerTold};
-
-// The offset after a frame: header and ciphertext.
-pub fn next_offset(offset: u64, clen: usize) -> NextOffset
-    ensures { λ r. ⌜ nextTold r ≡ outcome (Ask.next offset clen) ⌝ }
-{
-    if clen < 17 {
-        return NextOffset::NoFrame;
-    }
-    if 65535 < clen {
-        return NextOffset::NoFrame;
-    }
-    let frame = 3 + clen as u64;
-    if 0xffff_ffff_ffff_ffff - frame < offset {
-        return NextOffset::NoFrame;
-    }
-    NextOffset::Next(offset + frame)
-}
+ghost use Rattle.frame_layout.specs.Answers.{headerWritten, headerTold};
 
 // Writes a byte and a number of two bytes.
 fn put_three(s: &mut [u8], x: u8, y: u16)
@@ -54,7 +37,7 @@ pub fn write_header(rekey: bool, clen: usize, offset: u64, out: &mut [u8]) -> He
     if out.len() < 3 {
         return HeaderWritten::NoRoom;
     }
-    let after = next_offset(offset, clen);
+    let after = frame_offset::next_offset(offset, clen);
     match after {
         NextOffset::NoFrame => HeaderWritten::NoFrame,
         NextOffset::Next(next) => {
@@ -76,7 +59,7 @@ pub fn read_header(bytes: &[u8], offset: u64) -> HeaderRead
         };
     }
     let clen = wire_numbers::read_u16(bytes, 1);
-    let after = next_offset(offset, clen as usize);
+    let after = frame_offset::next_offset(offset, clen as usize);
     match after {
         NextOffset::NoFrame => HeaderRead {
             says: HeaderSays::NoFrame,

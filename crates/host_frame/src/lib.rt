@@ -1,19 +1,12 @@
-// Frames: offsets, headers, frame IDs, nonces and plaintexts.
-use host_frame_numbers::FrameId;
+// Frames: offsets and headers.
 use host_frame_numbers::HeaderNumbers;
-use host_frame_numbers::NonceNumbers;
-use host_frame_numbers::PlaintextNumbers;
 use host_frame_numbers::header_numbers;
 use host_frame_numbers::next_numbers;
-use host_frame_numbers::nonce_numbers;
-use host_frame_numbers::plaintext_numbers;
-use host_frame_numbers::plaintext_written_numbers;
 use host_frame_numbers::written_numbers;
 use host_reply::ReplyNumbers;
 ghost use mathlib.Core.Path.{_≡_};
-ghost use Rattle.wire.specs.Frame.{frameId};
 ghost use Rattle.frame_layout.specs.Calls.{Ask, outcome};
-ghost use Rattle.host_frame_numbers.specs.Replies.{frameNumbers, headerNumbers, idOf, nonceNumbers, plaintextNumbers, GivesFrame};
+ghost use Rattle.host_frame_numbers.specs.Replies.{frameNumbers, headerNumbers, GivesFrame};
 
 // The offset after a frame: header and ciphertext.
 #[no_mangle]
@@ -45,46 +38,4 @@ pub extern "C" fn door_link_header_read(bytes: &[u8], offset: u64) -> HeaderNumb
 {
     let told = frame::read_header(bytes, offset);
     header_numbers(told)
-}
-
-// The frame ID of a frame that begins at an offset.
-#[no_mangle]
-pub extern "C" fn door_link_frame_id(offset: u64) -> FrameId
-    ensures { λ r. ⌜ r ≡ idOf (frameId offset) ⌝ }
-{
-    let bytes = frame::frame_id(offset);
-    FrameId { bytes }
-}
-
-// The nonce of a frame that begins at an offset: its frame ID XOR the fixed nonce.
-#[no_mangle]
-pub extern "C" fn door_link_nonce(fixed: &[u8], offset: u64) -> NonceNumbers
-    ensures { λ r. ⌜ r ≡ nonceNumbers (outcome (Ask.nonce (now (fixed .entry)) offset)) ⌝ }
-{
-    let told = frame::nonce(fixed, offset);
-    nonce_numbers(told)
-}
-
-// Writes a plaintext, whose data field is the payload; the urgent field is written only with URGp.
-#[no_mangle]
-pub extern "C" fn door_link_plaintext_write(
-    fin: bool,
-    urg: bool,
-    urgent: u16,
-    payload: &[u8],
-    out: &mut [u8],
-) -> ReplyNumbers
-    ensures { λ r. ⌜ GivesFrame r (now (out .exit)) (outcome (Ask.writePlaintext fin urg urgent (now (payload .entry)) (now (out .entry)))) ⌝ }
-{
-    let told = frame::write_plaintext(fin, urg, urgent, payload, out);
-    plaintext_written_numbers(told)
-}
-
-// Reads a plaintext.
-#[no_mangle]
-pub extern "C" fn door_link_plaintext_read(bytes: &[u8]) -> PlaintextNumbers
-    ensures { λ r. ⌜ r ≡ plaintextNumbers (outcome (Ask.readPlaintext (now (bytes .entry)))) ⌝ }
-{
-    let told = frame::read_plaintext(bytes);
-    plaintext_numbers(told)
 }

@@ -1,3 +1,4 @@
 -- What the exported calls give back in plain numbers, and that these lose nothing.
 pub mod Replies
 pub mod ReadBack
+pub mod Giving

@@ -7,12 +7,11 @@ use native.Mathlib.Numerals.{add-one}
 use native.Mathlib.Omega.{arith}
 use borrow.Author.Tests.{eq-eqb, ne-eqb, lt-ltb, le-ltb, ltb-true, ltb-false}
 use lib.Dec.{ltb, eqb}
-use lib.ListN.{length, getD, take, drop, set, length-set, take-append-drop, length-take}
+use lib.ListN.{length, getD, take, drop, set, length-set, take-append-drop, length-take, drop-of-length-le, List·getD-eq-default}
 use lib.Seq.{drop-cons, drop-drop, take-all, take-suc-set, drop-set-lt, length-take-le}
 use Rattle.wire.specs.Bytes.{pasted}
 use Rattle.wire.specs.ByteLaws.{pasted-fits}
-use Rattle.text_words.specs.WordLaws.{drop-none}
-use Rattle.text_lines.specs.Line.{Line, newline, grown, longer, lineOf}
+use Rattle.text_lines.specs.Line.{Line, newline, carriageReturn, grown, longer, lineOf, withoutReturn}
 
 -- one byte more is kept in a buffer: its first bytes are the line's, the others are as they were
 pub record Pushed (line₀ : List ℕ) (n x : ℕ) (line : List ℕ) (r : ℕ) : Type 0 where
@@ -114,10 +113,27 @@ module _ (whole : Line) (line₀ chunk : List ℕ) (i : ℕ) (line : List ℕ) (
 
   pub collecting-end : length chunk ≤ i → whole ≡ record { kept = take n line; long = long; whole = false; next = i }
   unfolding lineOf
-  collecting-end h = sym (c .rest) ∙ ap (lineOf (length line₀) (take n line) long i) (drop-none chunk i h)
+  collecting-end h = sym (c .rest) ∙ ap (lineOf (length line₀) (take n line) long i) (drop-of-length-le chunk {i = i} h)
 
   pub collecting-bytes : line ≡ pasted line₀ 0 (take n line)
   collecting-bytes =
       let z : 0 + length (take n line) ≡ n = omega (arith, counted) in
       sym (pasted-fits line₀ 0 (take n line) (omega (arith, counted, c .within))
       ∙ (ap (λ k. take n line ++ drop k line₀) z ∙ (ap (λ l. take n line ++ l) (sym (c .left)) ∙ take-append-drop n line)))
+
+module _ (s : List ℕ) where
+  pub without-none : length s ≡ 0 → s ≡ withoutReturn s
+  unfolding withoutReturn
+  without-none h = simp (ne-eqb _ _ other)
+    where
+      other : getD s (length s - 1) 0 ≡ carriageReturn → ⊥
+      other e = let z = List·getD-eq-default s 0 {n = length s - 1} (omega arith) in omega arith
+
+  module _ (i : ℕ) (at : i ≡ length s - 1) where
+    pub without-other : (getD s i 0 ≡ carriageReturn → ⊥) → s ≡ withoutReturn s
+    unfolding withoutReturn
+    without-other d = simp (← at, ne-eqb _ _ d)
+
+    pub without-one : (n : ℕ) → n ≡ i → getD s i 0 ≡ carriageReturn → take n s ≡ withoutReturn s
+    unfolding withoutReturn
+    without-one n h e = ap (λ k. take k s) h ∙ simp (← at, eq-eqb _ _ e)

@@ -2,7 +2,7 @@
 ghost use mathlib.Core.Path.{_≡_};
 ghost use Prim.Native.Nat.{_≤_, min};
 ghost use lib.ListN.{length};
-ghost use Rattle.text_lines.specs.Line.{longer};
+ghost use Rattle.text_lines.specs.Line.{longer, withoutReturn};
 ghost use Rattle.text_lines.specs.LineLaws.{Pushed};
 ghost use Rattle.text_lines.specs.Answers.{Collects};
 
@@ -76,4 +76,18 @@ pub fn collect(chunk: &[u8], from: usize, line: &mut [u8], before: usize, long: 
         long: too_long,
         whole: false,
     }
+}
+
+// A line without the one carriage return that may stand before its newline.
+pub fn without_return(line: &[u8]) -> &[u8]
+    ensures { λ r. ⌜ now r ≡ withoutReturn (now (line .entry)) ⌝ }
+{
+    if line.len() == 0 {
+        return line;
+    }
+    let last = line.len() - 1;
+    if line[last] != b'\r' {
+        return line;
+    }
+    &line[0..last]
 }

@@ -1,20 +1,16 @@
 // Words of text in lent buffers: where they stand, the numbers and bytes that they say, and numbers and bytes written. Total for any place of any slice.
-mod decimal;
-mod hex;
-mod place;
-
-pub use decimal::Number;
-pub use decimal::number_said;
-pub use decimal::put_number;
-pub use hex::Bytes;
-pub use hex::Octet;
-pub use hex::byte_said;
-pub use hex::bytes_said;
-pub use hex::put_hex;
-pub use place::between;
-pub use place::first;
-pub use place::from;
-pub use place::place_of;
-pub use place::put;
-pub use place::word;
-pub use place::word_end;
+pub use text_decimal::Number;
+pub use text_decimal_reader::number_said;
+pub use text_decimal_writer::put_number;
+pub use text_hex::Bytes;
+pub use text_hex::Octet;
+pub use text_hex_digits::byte_said;
+pub use text_hex_reader::bytes_said;
+pub use text_hex_writer::put_hex;
+pub use text_parts::between;
+pub use text_parts::first;
+pub use text_parts::from;
+pub use text_places::place_of;
+pub use text_places::word;
+pub use text_places::word_end;
+pub use text_put::put;

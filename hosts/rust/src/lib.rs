@@ -1,5 +1,5 @@
 //! The link unit for hosts in Rust: TCP-ENO options (RFC 8547), resumption of tcpcrypt sessions (RFC 8548), 24 doors, one pool of 96 session
-//! records, Init messages, frames and generations. A safe crate over the library of crate host, every function of which is proved; it has no heap,
+//! records, Init messages, frames and generations. A safe crate over the library of the crates `host_*`, every function of which is proved; it has no heap,
 //! no global and no thread, and needs no `std`.
 //!
 //! | what | calls |

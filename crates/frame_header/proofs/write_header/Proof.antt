@@ -2,7 +2,7 @@
 use native.Mathlib.Omega.{arith}
 use mathlib.Core.Path.{sym, _∙_, ap}
 use Rattle.frame_header.proofs.Headers.{header-over, header-none, header-put}
-use Rattle.frame_header.proofs.Next.{next-told}
+use Rattle.frame_offset.proofs.Next.{next-told}
 use Rattle.frame_layout.specs.LayoutLaws.{frame-fits}
 use Rattle.frame_layout.specs.Answers.{nextTold}
 use borrow.Author.Needs.{needs}

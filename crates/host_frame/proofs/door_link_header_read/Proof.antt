@@ -1,4 +1,4 @@
--- `frame_calls::door_link_header_read` meets its contract.
+-- `host_frame::door_link_header_read` meets its contract.
 use Rattle.host_frame_numbers.specs.Replies.{headerNumbers}
 use Rattle.host_reply.specs.Telling.{wrapped}
 use borrow.Author.Needs.{needs}

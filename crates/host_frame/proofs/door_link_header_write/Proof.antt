@@ -1,5 +1,5 @@
--- `frame_calls::door_link_header_write` meets its contract.
-use Rattle.host_frame.proofs.Giving.{gives-frame}
+-- `host_frame::door_link_header_write` meets its contract.
+use Rattle.host_frame_numbers.specs.Giving.{gives-frame}
 use borrow.Author.Needs.{needs}
 use Rattle.host_frame.proofs.door_link_header_write.Statement.{statement}
 use Rattle.host_frame.proofs.door_link_header_write.Tie as tie

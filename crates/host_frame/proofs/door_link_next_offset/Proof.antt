@@ -1,4 +1,4 @@
--- `frame_calls::door_link_next_offset` meets its contract.
+-- `host_frame::door_link_next_offset` meets its contract.
 use mathlib.Core.Path.{_≡_, ap}
 use Rattle.frame_layout.specs.Outcome.{Outcome}
 use Rattle.host_frame_numbers.specs.Replies.{frameNumbers}

@@ -1,4 +1,4 @@
--- `frame_calls::header_numbers` meets its contract.
+-- `host_frame_numbers::header_numbers` meets its contract.
 use Prim.Native.Nat.{ℕ}
 use mathlib.Core.Path.{_≡_, ap}
 use mathlib.Core.List.{List}

@@ -1,4 +1,4 @@
--- `frame_calls::next_numbers` meets its contract.
+-- `host_frame_numbers::next_numbers` meets its contract.
 use Rattle.frame_layout.specs.Answers.{nextReply}
 use Rattle.frame_layout.specs.declared.NextOffset.{NextOffset}
 use Rattle.host_frame_numbers.specs.Replies.{frameNumbers}

@@ -1,4 +1,4 @@
--- `frame_calls::nonce_numbers` meets its contract.
+-- `host_frame_numbers::nonce_numbers` meets its contract.
 use Prim.Native.Nat.{ℕ}
 use mathlib.Core.Path.{_≡_, refl}
 use mathlib.Core.List.{List}

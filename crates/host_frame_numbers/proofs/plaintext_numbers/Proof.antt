@@ -1,4 +1,4 @@
--- `frame_calls::plaintext_numbers` meets its contract.
+-- `host_frame_numbers::plaintext_numbers` meets its contract.
 use Prim.Native.Nat.{ℕ}
 use mathlib.Core.Path.{_≡_, refl, ap₂}
 use Rattle.frame_layout.specs.Answers.{plaintextReply}

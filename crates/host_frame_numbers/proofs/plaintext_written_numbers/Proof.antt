@@ -1,4 +1,4 @@
--- `frame_calls::plaintext_written_numbers` meets its contract.
+-- `host_frame_numbers::plaintext_written_numbers` meets its contract.
 use Rattle.frame_layout.specs.Answers.{plaintextWrittenReply}
 use Rattle.frame_layout.specs.declared.PlaintextWritten.{PlaintextWritten}
 use Rattle.host_frame_numbers.specs.Replies.{frameNumbers}

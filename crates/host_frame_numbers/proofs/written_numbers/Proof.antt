@@ -1,4 +1,4 @@
--- `frame_calls::written_numbers` meets its contract.
+-- `host_frame_numbers::written_numbers` meets its contract.
 use Rattle.frame_layout.specs.Answers.{writtenReply}
 use Rattle.frame_layout.specs.declared.HeaderWritten.{HeaderWritten}
 use Rattle.host_frame_numbers.specs.Replies.{frameNumbers}

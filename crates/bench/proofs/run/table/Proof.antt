@@ -17,11 +17,11 @@ first-record-requires c κs = search needs
 loop-holds : tie.Need-loop-holds Inv-loop μ-loop
 loop-holds c = search needs
 
-until-requires : tie.Need-until-requires Inv-loop μ-loop
-until-requires c κs = search needs
+place-of-requires : tie.Need-place-of-requires Inv-loop μ-loop
+place-of-requires c κs = search needs
 
-part-requires : tie.Need-part-requires Inv-loop μ-loop
-part-requires c κs = search needs
+between-requires : tie.Need-between-requires Inv-loop μ-loop
+between-requires c κs = search needs
 
 other-line-requires : tie.Need-other-line-requires Inv-loop μ-loop
 other-line-requires c κs = search needs
@@ -49,8 +49,8 @@ table-spec =
     μ-loop
     first-record-requires
     loop-holds
-    until-requires
-    part-requires
+    place-of-requires
+    between-requires
     other-line-requires
     returns
     add-at

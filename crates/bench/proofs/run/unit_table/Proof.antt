@@ -17,11 +17,11 @@ erase-requires c κs = search needs
 loop-holds : tie.Need-loop-holds Inv-loop μ-loop
 loop-holds c = search needs
 
-until-requires : tie.Need-until-requires Inv-loop μ-loop
-until-requires c κs = search needs
+place-of-requires : tie.Need-place-of-requires Inv-loop μ-loop
+place-of-requires c κs = search needs
 
-part-requires : tie.Need-part-requires Inv-loop μ-loop
-part-requires c κs = search needs
+between-requires : tie.Need-between-requires Inv-loop μ-loop
+between-requires c κs = search needs
 
 unit-line-requires : tie.Need-unit-line-requires Inv-loop μ-loop
 unit-line-requires c κs = search needs
@@ -49,8 +49,8 @@ unit-table-spec =
     μ-loop
     erase-requires
     loop-holds
-    until-requires
-    part-requires
+    place-of-requires
+    between-requires
     unit-line-requires
     returns
     add-at

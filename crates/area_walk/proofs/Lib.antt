@@ -1,0 +1,2 @@
+-- Laws of the walk of an area.
+pub mod Locating

@@ -1,0 +1,2 @@
+-- What the walk of an area answers.
+pub mod Answers

@@ -1,2 +1,0 @@
--- The console: the numbers that it prints behind `refused`.
-pub mod Refused

@@ -1,2 +1,0 @@
--- What the exported calls of the unit give back.
-pub mod Replies

@@ -1,0 +1,2 @@
+-- The law that the proof of the function cites.
+pub mod IoDigits

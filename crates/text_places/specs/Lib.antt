@@ -1,0 +1,3 @@
+-- Where a byte stands in a text, and the word at a place.
+pub mod Word
+pub mod WordLaws
