@@ -86,7 +86,7 @@ const AWARE: u32 = 0x6177_6172;
 
 // An offer without a nonce; where it is mandatory that the other side is application-aware, this side is too.
 fn offer(
-    owners: &mut [u8; ROWS],
+    marks: &mut [u32; WORDS],
     rows: &mut [[u8; ROW]; ROWS],
     doors: &mut [[u8; PLACE]; DOORS],
     door: usize,
@@ -100,7 +100,7 @@ fn offer(
     let n = read::list(line, word::TEPS, &mut list);
     let resume = read::has(line, word::RESUMING);
     link_unit::offer(
-        owners,
+        marks,
         rows,
         doors,
         door,
@@ -116,7 +116,7 @@ fn offer(
 
 // An answer without a nonce; where it is mandatory that the other side is application-aware, this side is too.
 fn answer(
-    owners: &mut [u8; ROWS],
+    marks: &mut [u32; WORDS],
     rows: &mut [[u8; ROW]; ROWS],
     doors: &mut [[u8; PLACE]; DOORS],
     door: usize,
@@ -129,7 +129,7 @@ fn answer(
     let mut list = [0u8; ROOM];
     let n = read::list(line, word::TEPS, &mut list);
     link_unit::answer(
-        owners,
+        marks,
         rows,
         doors,
         door,
@@ -143,7 +143,7 @@ fn answer(
 }
 
 fn receive(
-    owners: &[u8; ROWS],
+    marks: &[u32; WORDS],
     rows: &[[u8; ROW]; ROWS],
     doors: &mut [[u8; PLACE]; DOORS],
     door: usize,
@@ -153,7 +153,7 @@ fn receive(
     let n = read::list(line, word::AREA, &mut area);
     let syn = !read::has(line, word::ACK);
     let ack = !read::has(line, word::SYN);
-    link_unit::receive(owners, rows, doors, door, syn, ack, read::first(&area, n))
+    link_unit::receive(marks, rows, doors, door, syn, ack, read::first(&area, n))
 }
 
 // The byte of which the secret that a reply gives has 32.
@@ -179,13 +179,13 @@ fn secret_told(came: [u8; 32], expected: u8) {
 }
 
 fn result(
-    owners: &[u8; ROWS],
+    marks: &[u32; WORDS],
     rows: &[[u8; ROW]; ROWS],
     doors: &[[u8; PLACE]; DOORS],
     door: usize,
     lent: &mut [u8],
 ) -> Reply {
-    let told = link_unit::result(owners, rows, doors, door, lent);
+    let told = link_unit::result(marks, rows, doors, door, lent);
     let reply = told.reply;
     let secret = told.secret;
     secret_told(secret, secret_of(reply));
@@ -193,7 +193,7 @@ fn result(
 }
 
 fn store(
-    owners: &mut [u8; ROWS],
+    marks: &mut [u32; WORDS],
     rows: &mut [[u8; ROW]; ROWS],
     doors: &mut [[u8; PLACE]; DOORS],
     door: usize,
@@ -205,7 +205,7 @@ fn store(
     let n = read::list(line, word::IDENTIFIER, &mut identifier);
     let secret = [SECRET; 32];
     link_unit::store(
-        owners,
+        marks,
         rows,
         doors,
         door,
@@ -217,7 +217,7 @@ fn store(
 }
 
 fn forget(
-    owners: &mut [u8; ROWS],
+    marks: &mut [u32; WORDS],
     rows: &mut [[u8; ROW]; ROWS],
     doors: &mut [[u8; PLACE]; DOORS],
     door: usize,
@@ -226,23 +226,23 @@ fn forget(
     let tep = read::byte(line, word::TEP);
     let mut identifier = [0u8; ROOM];
     let n = read::list(line, word::IDENTIFIER, &mut identifier);
-    link_unit::forget(owners, rows, doors, door, tep, read::first(&identifier, n))
+    link_unit::forget(marks, rows, doors, door, tep, read::first(&identifier, n))
 }
 
 fn record_call(
-    owners: &mut [u8; ROWS],
+    marks: &mut [u32; WORDS],
     rows: &mut [[u8; ROW]; ROWS],
     doors: &mut [[u8; PLACE]; DOORS],
     door: usize,
     line: &[u8],
 ) -> Reply {
     if read::has(line, word::STORE) {
-        return store(owners, rows, doors, door, line);
+        return store(marks, rows, doors, door, line);
     }
     if read::has(line, word::FORGET) {
-        return forget(owners, rows, doors, door, line);
+        return forget(marks, rows, doors, door, line);
     }
-    link_unit::count(owners, rows, doors, door)
+    link_unit::count(marks, rows, doors, door)
 }
 
 // The door that a line names; 7 where it names none.
@@ -255,7 +255,7 @@ fn door_of(line: &[u8]) -> usize {
 
 // The call of a line: what stands before its arrow.
 fn call(
-    owners: &mut [u8; ROWS],
+    marks: &mut [u32; WORDS],
     rows: &mut [[u8; ROW]; ROWS],
     doors: &mut [[u8; PLACE]; DOORS],
     line: &[u8],
@@ -263,32 +263,32 @@ fn call(
 ) -> Reply {
     let door = door_of(line);
     if read::has(line, word::OFFER) {
-        return offer(owners, rows, doors, door, line, lent);
+        return offer(marks, rows, doors, door, line, lent);
     }
     if read::has(line, word::ANSWER) {
-        return answer(owners, rows, doors, door, line, lent);
+        return answer(marks, rows, doors, door, line, lent);
     }
     if read::has(line, word::AREA) {
-        return receive(owners, rows, doors, door, line);
+        return receive(marks, rows, doors, door, line);
     }
     if read::has(line, word::RESEND) {
-        return link_unit::resend(owners, rows, doors, door, lent);
+        return link_unit::resend(marks, rows, doors, door, lent);
     }
     if read::has(line, word::RESULT) {
-        return result(owners, rows, doors, door, lent);
+        return result(marks, rows, doors, door, lent);
     }
-    record_call(owners, rows, doors, door, line)
+    record_call(marks, rows, doors, door, line)
 }
 
 // Makes the call of a line and holds the line against what came.
 pub fn made(
-    owners: &mut [u8; ROWS],
+    marks: &mut [u32; WORDS],
     rows: &mut [[u8; ROW]; ROWS],
     doors: &mut [[u8; PLACE]; DOORS],
     line: &[u8],
 ) {
     let mut lent = [say::FILL; say::LENT];
-    let reply = call(owners, rows, doors, read::given(line), &mut lent);
+    let reply = call(marks, rows, doors, read::given(line), &mut lent);
     let mut words = [0u8; ROOM];
     let n = reply_words(reply, &mut words);
     say::check(line, read::first(&words, n), &lent, say::FILL);

@@ -30,7 +30,7 @@ const TURNS: u64 = 0x8000_0000_0000_0000;
 
 // Runs a command and writes its reply in out. The bytes of its words stand in first, second and third, in order, and its buffer in lent; the generation record afterwards.
 fn run_command(
-    owners: &mut [u8; ROWS],
+    marks: &mut [u32; WORDS],
     rows: &mut [[u8; ROW]; ROWS],
     doors: &mut [[u8; PLACE]; DOORS],
     record: GenerationRecord,
@@ -49,11 +49,11 @@ fn run_command(
             record
         }
         Command::Unit(ask) => {
-            unit_calls::call(owners, rows, doors, ask, first, second, third, lent, out);
+            unit_calls::call(marks, rows, doors, ask, first, second, third, lent, out);
             record
         }
         Command::Look(look) => {
-            unit_calls::look(owners, rows, doors, look, lent, out);
+            unit_calls::look(marks, rows, doors, look, lent, out);
             record
         }
         Command::Message(message) => {
@@ -66,7 +66,7 @@ fn run_command(
 
 // Runs a line: its bytes go to first, second and third in the order of its words, its lent buffer to lent.
 fn run_line(
-    owners: &mut [u8; ROWS],
+    marks: &mut [u32; WORDS],
     rows: &mut [[u8; ROW]; ROWS],
     doors: &mut [[u8; PLACE]; DOORS],
     record: GenerationRecord,
@@ -84,7 +84,7 @@ fn run_line(
     // being a nonce of 32 and a key of 56 bytes, stay under 200 bytes.
     let mut out = [0u8; 24576];
     run_command(
-        owners,
+        marks,
         rows,
         doors,
         record,
@@ -100,12 +100,12 @@ fn run_line(
 
 // Runs the input to its end. The unit and the generation record stand here.
 fn main() {
-    let mut owners = [0u8; ROWS];
+    let mut marks = [0u32; WORDS];
     let row = [0u8; ROW];
     let mut rows = [row; ROWS];
     let door = [0u8; PLACE];
     let mut doors = [door; DOORS];
-    link_unit::erase(&mut owners, &mut rows, &mut doors);
+    link_unit::erase(&mut marks, &mut rows, &mut doors);
     let mut record = generation::first_record();
     let mut chunk = [0u8; 65536];
     let mut line = [0u8; 20000];
@@ -122,7 +122,7 @@ fn main() {
             number = std::num::wrapping_add_u64(number, 1);
             let words = text::part(&line, place.length);
             record = run_line(
-                &mut owners,
+                &mut marks,
                 &mut rows,
                 &mut doors,
                 record,

@@ -17,7 +17,7 @@ use link_unit::ROW;
 use link_unit::ROWS;
 
 fn offer(
-    owners: &mut [u8; ROWS],
+    marks: &mut [u32; WORDS],
     rows: &mut [[u8; ROW]; ROWS],
     doors: &mut [[u8; PLACE]; DOORS],
     words: Offer,
@@ -27,7 +27,7 @@ fn offer(
 ) -> Reply {
     let n = within(words.room, lent);
     link_unit::offer(
-        owners,
+        marks,
         rows,
         doors,
         words.door,
@@ -42,7 +42,7 @@ fn offer(
 }
 
 fn answer(
-    owners: &mut [u8; ROWS],
+    marks: &mut [u32; WORDS],
     rows: &mut [[u8; ROW]; ROWS],
     doors: &mut [[u8; PLACE]; DOORS],
     words: Answer,
@@ -53,7 +53,7 @@ fn answer(
 ) -> Reply {
     let n = within(words.room, lent);
     link_unit::answer(
-        owners,
+        marks,
         rows,
         doors,
         words.door,
@@ -67,18 +67,18 @@ fn answer(
 }
 
 fn receive(
-    owners: &[u8; ROWS],
+    marks: &[u32; WORDS],
     rows: &[[u8; ROW]; ROWS],
     doors: &mut [[u8; PLACE]; DOORS],
     words: Receive,
     first: &[u8],
 ) -> Reply {
     let area = part(first, words.area);
-    link_unit::receive(owners, rows, doors, words.door, words.syn, words.ack, area)
+    link_unit::receive(marks, rows, doors, words.door, words.syn, words.ack, area)
 }
 
 fn store(
-    owners: &mut [u8; ROWS],
+    marks: &mut [u32; WORDS],
     rows: &mut [[u8; ROW]; ROWS],
     doors: &mut [[u8; PLACE]; DOORS],
     words: Store,
@@ -86,7 +86,7 @@ fn store(
     second: &[u8],
 ) -> Reply {
     link_unit::store(
-        owners,
+        marks,
         rows,
         doors,
         words.door,
@@ -98,18 +98,18 @@ fn store(
 }
 
 fn forget(
-    owners: &mut [u8; ROWS],
+    marks: &mut [u32; WORDS],
     rows: &mut [[u8; ROW]; ROWS],
     doors: &mut [[u8; PLACE]; DOORS],
     words: Forget,
     first: &[u8],
 ) -> Reply {
     let identifier = part(first, words.identifier);
-    link_unit::forget(owners, rows, doors, words.door, words.tep, identifier)
+    link_unit::forget(marks, rows, doors, words.door, words.tep, identifier)
 }
 
 fn made(
-    owners: &mut [u8; ROWS],
+    marks: &mut [u32; WORDS],
     rows: &mut [[u8; ROW]; ROWS],
     doors: &mut [[u8; PLACE]; DOORS],
     asked: Ask,
@@ -119,13 +119,13 @@ fn made(
     lent: &mut [u8],
 ) -> Reply {
     match asked {
-        Ask::Offer(words) => offer(owners, rows, doors, words, first, second, lent),
-        Ask::Answer(words) => answer(owners, rows, doors, words, first, second, third, lent),
-        Ask::Receive(words) => receive(owners, rows, doors, words, first),
-        Ask::Close(door) => link_unit::close(owners, rows, doors, door),
-        Ask::Store(words) => store(owners, rows, doors, words, first, second),
-        Ask::Forget(words) => forget(owners, rows, doors, words, first),
-        Ask::Erase => link_unit::erase(owners, rows, doors),
+        Ask::Offer(words) => offer(marks, rows, doors, words, first, second, lent),
+        Ask::Answer(words) => answer(marks, rows, doors, words, first, second, third, lent),
+        Ask::Receive(words) => receive(marks, rows, doors, words, first),
+        Ask::Close(door) => link_unit::close(marks, rows, doors, door),
+        Ask::Store(words) => store(marks, rows, doors, words, first, second),
+        Ask::Forget(words) => forget(marks, rows, doors, words, first),
+        Ask::Erase => link_unit::erase(marks, rows, doors),
     }
 }
 
@@ -144,7 +144,7 @@ fn done_number(asked: Ask) -> usize {
 
 // Makes a call that may change the unit and writes its reply. The bytes of its words stand in first, second and third, in order, and its buffer in lent.
 pub fn call(
-    owners: &mut [u8; ROWS],
+    marks: &mut [u32; WORDS],
     rows: &mut [[u8; ROW]; ROWS],
     doors: &mut [[u8; PLACE]; DOORS],
     asked: Ask,
@@ -154,7 +154,7 @@ pub fn call(
     lent: &mut [u8],
     out: &mut [u8],
 ) {
-    let answer = made(owners, rows, doors, asked, first, second, third, lent);
+    let answer = made(marks, rows, doors, asked, first, second, third, lent);
     match asked {
         Ask::Offer(words) => {
             unit_replies::with_buffer(out, answer, part(lent, words.room));
@@ -170,7 +170,7 @@ pub fn call(
 }
 
 fn resend(
-    owners: &[u8; ROWS],
+    marks: &[u32; WORDS],
     rows: &[[u8; ROW]; ROWS],
     doors: &[[u8; PLACE]; DOORS],
     door: usize,
@@ -179,12 +179,12 @@ fn resend(
     out: &mut [u8],
 ) {
     let n = within(room, lent);
-    let answer = link_unit::resend(owners, rows, doors, door, &mut lent[0..n]);
+    let answer = link_unit::resend(marks, rows, doors, door, &mut lent[0..n]);
     unit_replies::with_buffer(out, answer, part(lent, room));
 }
 
 fn result(
-    owners: &[u8; ROWS],
+    marks: &[u32; WORDS],
     rows: &[[u8; ROW]; ROWS],
     doors: &[[u8; PLACE]; DOORS],
     door: usize,
@@ -193,7 +193,7 @@ fn result(
     out: &mut [u8],
 ) {
     let n = within(room, lent);
-    let told = link_unit::result(owners, rows, doors, door, &mut lent[0..n]);
+    let told = link_unit::result(marks, rows, doors, door, &mut lent[0..n]);
     let answer = told.reply;
     let secret = told.secret;
     unit_replies::with_secret(out, answer, secret, part(lent, room));
@@ -201,7 +201,7 @@ fn result(
 
 // Makes a call that leaves the unit as it is, and writes its reply.
 pub fn look(
-    owners: &[u8; ROWS],
+    marks: &[u32; WORDS],
     rows: &[[u8; ROW]; ROWS],
     doors: &[[u8; PLACE]; DOORS],
     asked: Look,
@@ -210,13 +210,13 @@ pub fn look(
 ) {
     match asked {
         Look::Resend { door, room } => {
-            resend(owners, rows, doors, door, room, lent, out);
+            resend(marks, rows, doors, door, room, lent, out);
         }
         Look::Result { door, room } => {
-            result(owners, rows, doors, door, room, lent, out);
+            result(marks, rows, doors, door, room, lent, out);
         }
         Look::Count { door } => {
-            let answer = link_unit::count(owners, rows, doors, door);
+            let answer = link_unit::count(marks, rows, doors, door);
             unit_replies::plainly(out, answer, b"");
         }
     }

@@ -37,11 +37,14 @@ pow-positive : (n : ℕ) → 0 < 2 ^ n
 pow-positive zero = omega arith
 pow-positive (suc n) = omega (arith, pow-suc 2 n, pow-positive n)
 
--- a bit's value is less than the word's number of values
-pub pow-less : (k n : ℕ) → k < n → 2 ^ k < 2 ^ n
+-- a bit's value is less than the word's number of values, so that it is not cut off
+pow-less : (k n : ℕ) → k < n → 2 ^ k < 2 ^ n
 pow-less k zero h = absurd (omega arith)
 pow-less zero (suc n) h = omega (arith, pow-suc 2 n, pow-positive n)
 pow-less (suc k) (suc n) h = omega (arith, pow-suc 2 n, pow-suc 2 k, pow-less k n (omega arith))
+
+pub place-is : (k : ℕ) → k < 32 → 1 * 2 ^ k % 4294967296 ≡ 2 ^ k
+place-is k h = omega (arith, pow-less k 32 h)
 
 -- the bit was set
 module _ (w k : ℕ) (was : w / 2 ^ k % 2 ≡ 1) where

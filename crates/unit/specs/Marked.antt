@@ -68,10 +68,10 @@ module _ (u : LinkUnit) (s : Inv u) (i : ℕ) where
   owned-by zero e l = absurd (omega arith)
   owned-by (suc d) e l = let k : d < doorsN = omega (arith, s .ours i, e) in record { by = d; ours = k; listed = s .listed d k i e }
 
-  marked-used : markOf u i ≡ 1 → InUse u i
+  pub marked-used : markOf u i ≡ 1 → InUse u i
   marked-used e = owned-by (getD (s .owners) i 0) refl (bit-taken _ (sym mark-is ∙ e))
 
-  used-marked : InUse u i → markOf u i ≡ 1
+  pub used-marked : InUse u i → markOf u i ≡ 1
   used-marked n = mark-is ∙ taken-bit _ (n .by) (in-own (s .owners) (n .by) i (mine (positionAt u (n .by))) (s .door (n .by) (n .ours) .own) (n .listed))
 
 -- after every list of calls, erase included: a mark is set exactly when some door lists the row

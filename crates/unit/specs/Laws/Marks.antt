@@ -7,8 +7,9 @@ use native.Mathlib.Nat.{zero-add, suc-add}
 use native.Mathlib.Omega.{arith}
 use lib.ListN.{length, getD, set, length-append, length-set}
 use lib.Dec.{ltb}
+use lib.Seq.{set-out}
 use borrow.Author.Tests.{ltb-true, ltb-false}
-use Rattle.unit.specs.Numbers.{wordN}
+use Rattle.unit.specs.Numbers.{rowsN, wordN, wordsN}
 use Rattle.unit.specs.Marks.{bitsOf, marksIn, withBit, withMark}
 use Rattle.unit.specs.Unit.{orNext, firstFree}
 use Rattle.unit.specs.Laws.Pool.{bit}
@@ -84,6 +85,15 @@ marks-set (w ∷ words) i b l = go (place i) (λ j. marks-set words j b l)
         let n : length (bitsOf 32 w) ≡ 32 = length-bits 32 w in
         let p : i ≡ length (bitsOf 32 w) + j = omega arith in
         rw (q, r) (ap (λ (x : List ℕ). bitsOf 32 w ++ x) (f j)) ∙ (sym (set-back (bitsOf 32 w) (marksIn words) j b) ∙ ap (λ (x : ℕ). set (bitsOf 32 w ++ marksIn words) x b) (sym p))
+
+-- a row's word is one of the unit's; past the last row nothing is marked
+pub word-in : (i : ℕ) → i < rowsN → i / wordN < wordsN
+unfolding rowsN wordN wordsN
+word-in i h = omega arith
+
+pub mark-past : (words : List ℕ) (i b : ℕ) → length words ≤ wordsN → rowsN ≤ i → withMark words i b ≡ words
+unfolding withMark rowsN wordN wordsN
+mark-past words i b n h = set-out words (i / wordN) _ (omega arith)
 
 -- each mark is 0 or 1
 abbrev Bits : List ℕ → Type 0
