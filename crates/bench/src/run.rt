@@ -12,6 +12,7 @@ use link_unit::DOORS;
 use link_unit::PLACE;
 use link_unit::ROW;
 use link_unit::ROWS;
+use link_unit::WORDS;
 
 fn is_call(line: &[u8]) -> bool {
     if line.len() == 0 {

@@ -11,6 +11,7 @@ use link_unit::DOORS;
 use link_unit::PLACE;
 use link_unit::ROW;
 use link_unit::ROWS;
+use link_unit::WORDS;
 
 // The secret of every record of the bench.
 const SECRET: u8 = 0x5a;

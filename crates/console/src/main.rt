@@ -24,6 +24,7 @@ use link_unit::DOORS;
 use link_unit::PLACE;
 use link_unit::ROW;
 use link_unit::ROWS;
+use link_unit::WORDS;
 
 // A reading loop has to end: no input reaches this many turns.
 const TURNS: u64 = 0x8000_0000_0000_0000;

@@ -15,6 +15,7 @@ use link_unit::DOORS;
 use link_unit::PLACE;
 use link_unit::ROW;
 use link_unit::ROWS;
+use link_unit::WORDS;
 
 fn offer(
     marks: &mut [u32; WORDS],

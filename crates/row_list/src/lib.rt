@@ -71,11 +71,12 @@ fn with_record(n: usize, numbers: [u8; EACH], row: usize) -> Listing
     }
     let mut listed = numbers;
     listed[n] = row as u8;
+    let used = true;
     let count = (n + 1) as u8;
     Listing {
         fits: true,
         row,
-        used: true,
+        used,
         count,
         numbers: listed,
     }
@@ -91,11 +92,12 @@ fn without_record(n: usize, numbers: [u8; EACH], j: usize) -> Listing
     }
     let row = wire::wide(numbers[j]);
     let left = closed_up(numbers, j);
+    let used = false;
     let count = (n - 1) as u8;
     Listing {
         fits: true,
         row,
-        used: false,
+        used,
         count,
         numbers: left,
     }
