@@ -36,6 +36,9 @@ static bool zeros(const void *bytes, size_t length) {
 /* How often each call was refused with each number, and how often it was not. */
 static unsigned refused[UNIT_CALLS][17], accepted[UNIT_CALLS], records_taken, resumed_results;
 
+/* Which rows were in use after some call of a unit that calls made. */
+static bool rows_met[DOOR_LINK_ROWS];
+
 /* Whether a door's list has a row. */
 static bool lists(const struct door *door, size_t row) {
     for (size_t i = 0; i < 4 && i < door->count; i++)
@@ -52,18 +55,18 @@ static void compare(int call, const struct unit *before, const struct asked *giv
 
     size_t changed = 0, row = 0;
     for (size_t i = 0; i < DOOR_LINK_ROWS; i++) {
-        if (before->owners[i] == unit.owners[i] && memcmp(&before->rows[i], &unit.rows[i], sizeof unit.rows[i]) == 0) continue;
+        if (marked(before, i) == marked(&unit, i) && memcmp(&before->rows[i], &unit.rows[i], sizeof unit.rows[i]) == 0) continue;
         changed++;
         row = i;
     }
     EXPECT(changed <= 1);
     if (changed && call == STORE) {
-        EXPECT(before->owners[row] == 0 && unit.owners[row] == door + 1 && unit.rows[row].tep == asked.tep && unit.rows[row].role == asked.role);
+        EXPECT(!marked(before, row) && marked(&unit, row) && unit.rows[row].tep == asked.tep && unit.rows[row].role == asked.role);
         EXPECT(memcmp(unit.rows[row].identifier, asked.identifier, 18) == 0 && memcmp(unit.rows[row].secret, asked.secret, 32) == 0);
-        for (size_t i = 0; i < row; i++) EXPECT(before->owners[i] != 0);
+        for (size_t i = 0; i < row; i++) EXPECT(marked(before, i));
     } else if (changed) {
         EXPECT(call == OFFER || call == ANSWER || call == FORGET);
-        EXPECT(door < DOOR_LINK_DOORS && lists(&before->doors[door], row) && unit.owners[row] == 0 && zeros(&unit.rows[row], sizeof unit.rows[row]));
+        EXPECT(door < DOOR_LINK_DOORS && lists(&before->doors[door], row) && !marked(&unit, row) && zeros(&unit.rows[row], sizeof unit.rows[row]));
         records_taken++;
     }
 
@@ -154,13 +157,31 @@ static void run_call(int call, bool wipe) {
 #endif
 }
 
-/* A unit that calls made, from the empty one on: its flags stay 0 or 1, and a row has no other owner than the door that has it. */
+/* The marks, made anew of the doors' lists: they are those of the unit, no row is listed twice, and a row that is not marked is zeros. */
+static void marks_agree(void) {
+    uint32_t marks[DOOR_LINK_WORDS] = {0};
+    for (size_t door = 0; door < DOOR_LINK_DOORS; door++)
+        for (size_t i = 0; i < unit.doors[door].count; i++) {
+            const size_t row = unit.doors[door].rows[i];
+            EXPECT(row < DOOR_LINK_ROWS && !(marks[row / 32] >> row % 32 & 1));
+            marks[row / 32] |= UINT32_C(1) << row % 32;
+        }
+    EXPECT(memcmp(marks, unit.marks, sizeof marks) == 0);
+    for (size_t row = 0; row < DOOR_LINK_ROWS; row++)
+        if (!marked(&unit, row)) EXPECT(zeros(&unit.rows[row], sizeof unit.rows[row]));
+}
+
+/* A unit that calls made, from the empty one on, and from erasures between them: its flags stay 0 or 1, and its marks agree with the doors' lists. */
 static void made_by_calls(void) {
     static struct unit before;
     uint8_t lent[sizeof out];
     uint32_t serial = 0;
     erase();
     for (int i = 0; i < CALLS_OF_A_UNIT; i++) {
+        if (one_in(4000)) {
+            erase();
+            marks_agree();
+        }
         const int call = one_in(3) ? STORE : (int)below(DOOR_CALLS);
         some_arguments();
         if (call == STORE) {
@@ -173,8 +194,8 @@ static void made_by_calls(void) {
         memcpy(lent, out, sizeof out);
         run_call(call, i % 2 == 1);
         compare(call, &before, &given, lent);
-        for (size_t k = 0; k < DOOR_LINK_ROWS; k++)
-            if (before.owners[k] != unit.owners[k]) EXPECT(before.owners[k] + unit.owners[k] == (int)asked.door + 1);
+        marks_agree();
+        for (size_t k = 0; k < DOOR_LINK_ROWS; k++) rows_met[k] |= marked(&unit, k);
         for (size_t k = 0; k < DOOR_LINK_DOORS; k++)
             EXPECT(unit.doors[k].mandatory <= 1 && unit.doors[k].resumed <= 1 && unit.doors[k].held <= 1);
     }
@@ -206,6 +227,7 @@ static void met(void) {
         failures++;
     }
     EXPECT(records_taken >= 100 && resumed_results >= 20);
+    for (size_t i = 0; i <= 2 * DOOR_LINK_ROWS / 3; i++) EXPECT(rows_met[i]);
 }
 
 static bool says(struct door_link_reply got, uint8_t kind, size_t number) { return got.kind == kind && got.number == number; }

@@ -83,16 +83,17 @@ extern "C" {
 #endif
 
 /* The number of this header. Each change of a struct, of an export or of a number raises it, and the library exports one name that carries its own,
- * door_link_abi_2. The inline functions refer to the name with the header's number, so a program that was compiled with another header does not link. */
-#define DOOR_LINK_ABI 2
+ * door_link_abi_3. The inline functions refer to the name with the header's number, so a program that was compiled with another header does not link. */
+#define DOOR_LINK_ABI 3
 
 enum {
     DOOR_LINK_DOORS = 24,       /* doors are 0 to 23 */
     DOOR_LINK_RECORDS = 4,      /* session records that a door may hold */
     DOOR_LINK_ROWS = 96,        /* rows of the pool, one for each record that may be held */
+    DOOR_LINK_WORDS = DOOR_LINK_ROWS / 32, /* words of marks, one bit for each row */
     DOOR_LINK_ROW_BYTES = 52,   /* bytes of a row */
     DOOR_LINK_DOOR_BYTES = 148, /* bytes of a door */
-    DOOR_LINK_UNIT = 8640,      /* bytes of a unit */
+    DOOR_LINK_UNIT = 4 * DOOR_LINK_WORDS + DOOR_LINK_ROWS * DOOR_LINK_ROW_BYTES + DOOR_LINK_DOORS * DOOR_LINK_DOOR_BYTES, /* bytes of a unit */
     DOOR_LINK_OPTION = 40,      /* a buffer of this length is long enough for any option */
     DOOR_LINK_TRANSCRIPT = 80,  /* and one of this length for any transcript */
     DOOR_LINK_IDENTIFIER = 18,  /* bytes of a session's identifier */
@@ -161,7 +162,7 @@ enum {
 
 /* All doors and the pool. The bytes are the library's. */
 struct door_link_unit {
-    uint8_t owners[DOOR_LINK_ROWS];
+    uint32_t marks[DOOR_LINK_WORDS];
     uint8_t rows[DOOR_LINK_ROWS][DOOR_LINK_ROW_BYTES];
     uint8_t doors[DOOR_LINK_DOORS][DOOR_LINK_DOOR_BYTES];
 };
@@ -241,40 +242,40 @@ static inline const char *door_link_reason_text(size_t number) {
 
 struct door_link_reply door_link_raw_find_status(const uint8_t *area, size_t area_length, bool syn) __asm__("door_link_find_status");
 
-struct door_link_reply door_link_erase(uint8_t *owners, uint8_t (*rows)[DOOR_LINK_ROW_BYTES], uint8_t (*doors)[DOOR_LINK_DOOR_BYTES]);
+struct door_link_reply door_link_erase(uint32_t *marks, uint8_t (*rows)[DOOR_LINK_ROW_BYTES], uint8_t (*doors)[DOOR_LINK_DOOR_BYTES]);
 
-struct door_link_reply door_link_offer(uint8_t *owners, uint8_t (*rows)[DOOR_LINK_ROW_BYTES], uint8_t (*doors)[DOOR_LINK_DOOR_BYTES], size_t door, uint8_t b,
+struct door_link_reply door_link_offer(uint32_t *marks, uint8_t (*rows)[DOOR_LINK_ROW_BYTES], uint8_t (*doors)[DOOR_LINK_DOOR_BYTES], size_t door, uint8_t b,
                                        bool aware, bool mandatory, const uint8_t *teps, size_t teps_length, bool resume, const uint8_t *nonce,
                                        size_t nonce_length, uint8_t *out, size_t out_length);
 
-struct door_link_reply door_link_answer(uint8_t *owners, uint8_t (*rows)[DOOR_LINK_ROW_BYTES], uint8_t (*doors)[DOOR_LINK_DOOR_BYTES], size_t door,
+struct door_link_reply door_link_answer(uint32_t *marks, uint8_t (*rows)[DOOR_LINK_ROW_BYTES], uint8_t (*doors)[DOOR_LINK_DOOR_BYTES], size_t door,
                                         const uint8_t *area, size_t area_length, bool aware, bool mandatory, const uint8_t *teps, size_t teps_length,
                                         const uint8_t *nonce, size_t nonce_length, uint8_t *out, size_t out_length);
 
-struct door_link_reply door_link_receive(const uint8_t *owners, const uint8_t (*rows)[DOOR_LINK_ROW_BYTES], uint8_t (*doors)[DOOR_LINK_DOOR_BYTES],
+struct door_link_reply door_link_receive(const uint32_t *marks, const uint8_t (*rows)[DOOR_LINK_ROW_BYTES], uint8_t (*doors)[DOOR_LINK_DOOR_BYTES],
                                          size_t door, bool syn, bool ack, const uint8_t *area, size_t area_length);
 
-struct door_link_reply door_link_resend(const uint8_t *owners, const uint8_t (*rows)[DOOR_LINK_ROW_BYTES], const uint8_t (*doors)[DOOR_LINK_DOOR_BYTES],
+struct door_link_reply door_link_resend(const uint32_t *marks, const uint8_t (*rows)[DOOR_LINK_ROW_BYTES], const uint8_t (*doors)[DOOR_LINK_DOOR_BYTES],
                                         size_t door, uint8_t *out, size_t out_length);
 
-struct door_link_result_reply door_link_result(const uint8_t *owners, const uint8_t (*rows)[DOOR_LINK_ROW_BYTES],
+struct door_link_result_reply door_link_result(const uint32_t *marks, const uint8_t (*rows)[DOOR_LINK_ROW_BYTES],
                                                const uint8_t (*doors)[DOOR_LINK_DOOR_BYTES], size_t door, uint8_t *out, size_t out_length);
 
-struct door_link_reply door_link_close(const uint8_t *owners, const uint8_t (*rows)[DOOR_LINK_ROW_BYTES], uint8_t (*doors)[DOOR_LINK_DOOR_BYTES],
+struct door_link_reply door_link_close(const uint32_t *marks, const uint8_t (*rows)[DOOR_LINK_ROW_BYTES], uint8_t (*doors)[DOOR_LINK_DOOR_BYTES],
                                        size_t door);
 
-struct door_link_reply door_link_store(uint8_t *owners, uint8_t (*rows)[DOOR_LINK_ROW_BYTES], uint8_t (*doors)[DOOR_LINK_DOOR_BYTES], size_t door,
+struct door_link_reply door_link_store(uint32_t *marks, uint8_t (*rows)[DOOR_LINK_ROW_BYTES], uint8_t (*doors)[DOOR_LINK_DOOR_BYTES], size_t door,
                                        uint8_t tep, uint8_t role, const uint8_t *identifier, size_t identifier_length, const uint8_t *secret,
                                        size_t secret_length);
 
-struct door_link_reply door_link_forget(uint8_t *owners, uint8_t (*rows)[DOOR_LINK_ROW_BYTES], uint8_t (*doors)[DOOR_LINK_DOOR_BYTES], size_t door,
+struct door_link_reply door_link_forget(uint32_t *marks, uint8_t (*rows)[DOOR_LINK_ROW_BYTES], uint8_t (*doors)[DOOR_LINK_DOOR_BYTES], size_t door,
                                         uint8_t tep, const uint8_t *identifier, size_t identifier_length);
 
-struct door_link_reply door_link_count(const uint8_t *owners, const uint8_t (*rows)[DOOR_LINK_ROW_BYTES], const uint8_t (*doors)[DOOR_LINK_DOOR_BYTES],
+struct door_link_reply door_link_count(const uint32_t *marks, const uint8_t (*rows)[DOOR_LINK_ROW_BYTES], const uint8_t (*doors)[DOOR_LINK_DOOR_BYTES],
                                        size_t door);
 
-/* Gives 2. It is there for its name: see DOOR_LINK_ABI. */
-size_t door_link_abi_2(void);
+/* Gives 3. It is there for its name: see DOOR_LINK_ABI. */
+size_t door_link_abi_3(void);
 
 /* The bytes of a unit, DOOR_LINK_UNIT, for hosts that do not compile this header. */
 size_t door_link_unit_size(void);
@@ -319,7 +320,7 @@ static inline struct door_link_reply door_link_find_status(const uint8_t *area, 
  * Replies: DONE. Never refused. */
 static inline struct door_link_reply door_link_unit_erase(struct door_link_unit *unit) {
     door_link_abi();
-    return door_link_erase(unit->owners, unit->rows, unit->doors);
+    return door_link_erase(unit->marks, unit->rows, unit->doors);
 }
 
 /* An active open, or one that may cross with the other side's: writes this end's ENO option, to be put into the SYN's option area. In Idle; Offered then.
@@ -339,7 +340,7 @@ static inline struct door_link_reply door_link_unit_offer(struct door_link_unit 
                                                           size_t nonce_length, uint8_t *out, size_t out_length) {
     uint8_t none[1];
     door_link_abi();
-    return door_link_offer(unit->owners, unit->rows, unit->doors, door, b, aware, mandatory, door_link_bytes(teps), door_link_length(teps, teps_length),
+    return door_link_offer(unit->marks, unit->rows, unit->doors, door, b, aware, mandatory, door_link_bytes(teps), door_link_length(teps, teps_length),
                            resume, door_link_bytes(nonce), door_link_length(nonce, nonce_length), out ? out : none, door_link_length(out, out_length));
 }
 
@@ -354,7 +355,7 @@ static inline struct door_link_reply door_link_unit_answer(struct door_link_unit
                                                            size_t nonce_length, uint8_t *out, size_t out_length) {
     uint8_t none[1];
     door_link_abi();
-    return door_link_answer(unit->owners, unit->rows, unit->doors, door, door_link_bytes(area), door_link_length(area, area_length), aware, mandatory,
+    return door_link_answer(unit->marks, unit->rows, unit->doors, door, door_link_bytes(area), door_link_length(area, area_length), aware, mandatory,
                             door_link_bytes(teps), door_link_length(teps, teps_length), door_link_bytes(nonce), door_link_length(nonce, nonce_length),
                             out ? out : none, door_link_length(out, out_length));
 }
@@ -373,7 +374,7 @@ static inline struct door_link_reply door_link_unit_receive(struct door_link_uni
                                                             size_t area_length) {
     const struct door_link_unit *kept = unit;
     door_link_abi();
-    return door_link_receive(kept->owners, kept->rows, unit->doors, door, syn, ack, door_link_bytes(area), door_link_length(area, area_length));
+    return door_link_receive(kept->marks, kept->rows, unit->doors, door, syn, ack, door_link_bytes(area), door_link_length(area, area_length));
 }
 
 /* Writes the option that this end sent once more, for a retransmission; a null `out` is refused with 5. Changes nothing. A stack may send its SYN+ACK once more when
@@ -382,7 +383,7 @@ static inline struct door_link_reply door_link_unit_receive(struct door_link_uni
 static inline struct door_link_reply door_link_unit_resend(const struct door_link_unit *unit, size_t door, uint8_t *out, size_t out_length) {
     uint8_t none[1];
     door_link_abi();
-    return door_link_resend(unit->owners, unit->rows, unit->doors, door, out ? out : none, door_link_length(out, out_length));
+    return door_link_resend(unit->marks, unit->rows, unit->doors, door, out ? out : none, door_link_length(out, out_length));
 }
 
 /* What the connection is. Changes nothing and may be asked again.
@@ -397,7 +398,7 @@ static inline struct door_link_reply door_link_unit_result(const struct door_lin
     uint8_t none[1];
     door_link_abi();
     struct door_link_result_reply told =
-        door_link_result(unit->owners, unit->rows, unit->doors, door, out ? out : none, door_link_length(out, out_length));
+        door_link_result(unit->marks, unit->rows, unit->doors, door, out ? out : none, door_link_length(out, out_length));
     for (size_t i = 0; i < DOOR_LINK_SECRET; i++) {
         if (secret) secret[i] = told.secret[i];
         told.secret[i] = 0;
@@ -412,7 +413,7 @@ static inline struct door_link_reply door_link_unit_result(const struct door_lin
 static inline struct door_link_reply door_link_unit_close(struct door_link_unit *unit, size_t door) {
     const struct door_link_unit *kept = unit;
     door_link_abi();
-    return door_link_close(kept->owners, kept->rows, unit->doors, door);
+    return door_link_close(kept->marks, kept->rows, unit->doors, door);
 }
 
 /* Adds a session record to a door, as its newest; any phase.
@@ -425,7 +426,7 @@ static inline struct door_link_reply door_link_unit_close(struct door_link_unit 
 static inline struct door_link_reply door_link_unit_store(struct door_link_unit *unit, size_t door, uint8_t tep, uint8_t role, const uint8_t *identifier,
                                                           size_t identifier_length, const uint8_t *secret, size_t secret_length) {
     door_link_abi();
-    return door_link_store(unit->owners, unit->rows, unit->doors, door, tep, role, door_link_bytes(identifier),
+    return door_link_store(unit->marks, unit->rows, unit->doors, door, tep, role, door_link_bytes(identifier),
                            door_link_length(identifier, identifier_length), door_link_bytes(secret), door_link_length(secret, secret_length));
 }
 
@@ -434,14 +435,14 @@ static inline struct door_link_reply door_link_unit_store(struct door_link_unit 
 static inline struct door_link_reply door_link_unit_forget(struct door_link_unit *unit, size_t door, uint8_t tep, const uint8_t *identifier,
                                                            size_t identifier_length) {
     door_link_abi();
-    return door_link_forget(unit->owners, unit->rows, unit->doors, door, tep, door_link_bytes(identifier), door_link_length(identifier, identifier_length));
+    return door_link_forget(unit->marks, unit->rows, unit->doors, door, tep, door_link_bytes(identifier), door_link_length(identifier, identifier_length));
 }
 
 /* How many session records a door holds; one in hand is not counted. Changes nothing.
  * Replies: HOLDS. Refused: 1. */
 static inline struct door_link_reply door_link_unit_count(const struct door_link_unit *unit, size_t door) {
     door_link_abi();
-    return door_link_count(unit->owners, unit->rows, unit->doors, door);
+    return door_link_count(unit->marks, unit->rows, unit->doors, door);
 }
 
 #ifdef __cplusplus

@@ -20,12 +20,12 @@ _Static_assert(offsetof(struct door, mandatory) == 1 && offsetof(struct door, re
 _Static_assert(offsetof(struct door, resumed) == 7 && offsetof(struct door, held) == 10 && offsetof(struct door, rows) == 14, "a door's numbers");
 _Static_assert(offsetof(struct door, own) == 18 && offsetof(struct door, peer) == 58, "a door's options");
 _Static_assert(offsetof(struct door, hand_identifier) == 98 && offsetof(struct door, hand_secret) == 116, "a door's record in hand");
-_Static_assert(sizeof(struct unit) == 8640 && _Alignof(struct unit) == 1, "a unit");
-_Static_assert(offsetof(struct unit, rows) == 96 && offsetof(struct unit, doors) == 5088, "a unit's fields");
+_Static_assert(sizeof(struct unit) == 8556 && _Alignof(struct unit) == 4, "a unit");
+_Static_assert(offsetof(struct unit, rows) == 12 && offsetof(struct unit, doors) == 5004, "a unit's fields");
 
-_Static_assert(sizeof(struct door_link_unit) == sizeof(struct unit) && _Alignof(struct door_link_unit) == 1, "the header's unit");
-_Static_assert(sizeof(struct door_link_unit) == DOOR_LINK_UNIT && offsetof(struct door_link_unit, owners) == 0, "the header's unit: its size, owners");
-_Static_assert(offsetof(struct door_link_unit, rows) == 96 && offsetof(struct door_link_unit, doors) == 5088, "the header's unit: rows, doors");
+_Static_assert(sizeof(struct door_link_unit) == sizeof(struct unit) && _Alignof(struct door_link_unit) == 4, "the header's unit");
+_Static_assert(sizeof(struct door_link_unit) == DOOR_LINK_UNIT && offsetof(struct door_link_unit, marks) == 0, "the header's unit: its size, marks");
+_Static_assert(offsetof(struct door_link_unit, rows) == 12 && offsetof(struct door_link_unit, doors) == 5004, "the header's unit: rows, doors");
 _Static_assert(sizeof(struct door_link_reply) == 16 && _Alignof(struct door_link_reply) == 8, "the header's reply");
 _Static_assert(offsetof(struct door_link_reply, number) == 0 && offsetof(struct door_link_reply, kind) == 8, "the header's reply: number, kind");
 _Static_assert(offsetof(struct door_link_reply, role) == 9 && offsetof(struct door_link_reply, tep) == 10, "the header's reply: role, tep");
@@ -287,13 +287,13 @@ int main(void) {
     memset(&unit, 0xee, sizeof unit);
     door_link_unit_erase(&unit);
     EXPECT(all_zero((const uint8_t *)&unit, sizeof unit));
-    EXPECT(door_link_abi_2() == DOOR_LINK_ABI && door_link_unit_size() == sizeof unit);
+    EXPECT(door_link_abi_3() == DOOR_LINK_ABI && door_link_unit_size() == sizeof unit);
 
     /* The second record's row, and its number at the door. */
     EXPECT(door_link_unit_store(&unit, 22, 0x23, 0, identifier, 18, secret, 32).kind == DOOR_LINK_DONE);
     EXPECT(door_link_unit_store(&unit, 23, 0x24, 1, identifier, 18, secret, 32).kind == DOOR_LINK_DONE);
     struct unit u = seen(&unit);
-    EXPECT(u.owners[0] == 23 && u.owners[1] == 24 && u.owners[2] == 0);
+    EXPECT(u.marks[0] == 3 && u.marks[1] == 0 && u.marks[2] == 0);
     EXPECT(u.rows[1].tep == 0x24 && u.rows[1].role == 1);
     EXPECT(memcmp(u.rows[1].identifier, identifier, 18) == 0 && memcmp(u.rows[1].secret, secret, 32) == 0);
     EXPECT(u.doors[23].count == 1 && u.doors[23].rows[0] == 1 && u.doors[23].phase == 0);
@@ -302,7 +302,7 @@ int main(void) {
     struct door_link_reply reply = door_link_unit_offer(&unit, 23, 0, true, true, teps, 2, true, nonce, 3, out, sizeof out);
     EXPECT(reply.kind == DOOR_LINK_WRITTEN && reply.number == 17);
     u = seen(&unit);
-    EXPECT(u.owners[1] == 0 && u.rows[1].tep == 0 && u.doors[23].count == 0);
+    EXPECT(u.marks[0] == 1 && u.rows[1].tep == 0 && u.doors[23].count == 0);
     EXPECT(u.doors[23].phase == 1 && u.doors[23].mandatory == 1);
     EXPECT(u.doors[23].own_length == 17 && memcmp(u.doors[23].own, out, 17) == 0);
     EXPECT(u.doors[23].held == 1 && u.doors[23].hand_tep == 0x24 && u.doors[23].hand_role == 1);

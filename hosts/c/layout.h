@@ -35,11 +35,14 @@ struct door {
     uint8_t hand_secret[32];
 };
 
-/* All of them: an owner is 0 for a free row, else the number of its door and one. */
+/* All of them: bit i % 32, from the lowest, of word i / 32 is row i's mark, set where the row is in use. */
 struct unit {
-    uint8_t owners[96];
+    uint32_t marks[3];
     struct session_record rows[96];
     struct door doors[24];
 };
+
+/* Whether a row is marked. */
+static inline bool marked(const struct unit *unit, size_t row) { return unit->marks[row / 32] >> row % 32 & 1; }
 
 #endif

@@ -71,11 +71,11 @@ static const struct unit_call {
     {"close", close_door}, {"store", store}, {"forget", forget}, {"count", count}, {"erase", erase},
 };
 
-/* Any bytes. In half of the doors the numbers are near those that the library writes, so that calls get further. */
+/* Any bytes; some words of marks are empty or full. In half of the doors the numbers are near those that the library writes, so that calls get further. */
 static void any_unit(void) {
     fill((uint8_t *)&unit, sizeof unit);
-    for (size_t i = 0; i < DOOR_LINK_ROWS; i++)
-        if (one_in(2)) unit.owners[i] = 0;
+    for (size_t i = 0; i < DOOR_LINK_WORDS; i++)
+        if (one_in(2)) unit.marks[i] = one_in(2) ? 0 : UINT32_MAX;
     for (size_t i = 0; i < DOOR_LINK_DOORS; i++) {
         struct door *door = &unit.doors[i];
         if (one_in(2)) continue;

@@ -12,6 +12,7 @@ use link_unit::DOORS;
 use link_unit::PLACE;
 use link_unit::ROW;
 use link_unit::ROWS;
+use link_unit::WORDS;
 
 fn is_call(line: &[u8]) -> bool {
     if line.len() == 0 {
@@ -26,32 +27,32 @@ fn name(line: &[u8]) {
 }
 
 fn unit_line(
-    owners: &mut [u8; ROWS],
+    marks: &mut [u32; WORDS],
     rows: &mut [[u8; ROW]; ROWS],
     doors: &mut [[u8; PLACE]; DOORS],
     line: &[u8],
 ) {
     if is_call(line) {
-        unit_calls::made(owners, rows, doors, line);
+        unit_calls::made(marks, rows, doors, line);
         return;
     }
     name(line);
-    link_unit::erase(owners, rows, doors);
+    link_unit::erase(marks, rows, doors);
 }
 
 // A table of calls of the unit, whose memory stands here.
 pub fn unit_table(table: &[u8]) {
-    let mut owners = [0u8; ROWS];
+    let mut marks = [0u32; WORDS];
     let row = [0u8; ROW];
     let mut rows = [row; ROWS];
     let door = [0u8; PLACE];
     let mut doors = [door; DOORS];
-    link_unit::erase(&mut owners, &mut rows, &mut doors);
+    link_unit::erase(&mut marks, &mut rows, &mut doors);
     let mut at = 0;
     while at < table.len() {
         let end = text_words::place_of(table, at, b'\n');
         unit_line(
-            &mut owners,
+            &mut marks,
             &mut rows,
             &mut doors,
             text_words::between(table, at, end),

@@ -12,6 +12,7 @@ use link_unit::DOORS;
 use link_unit::PLACE;
 use link_unit::ROW;
 use link_unit::ROWS;
+use link_unit::WORDS;
 
 // The secret of every record of the bench.
 const SECRET: u8 = 0x5a;
@@ -91,7 +92,7 @@ fn is_aware(line: &[u8], mandatory: bool) -> bool {
 
 // An offer without a nonce; where it is mandatory that the other side is application-aware, this side is too.
 fn offer(
-    owners: &mut [u8; ROWS],
+    marks: &mut [u32; WORDS],
     rows: &mut [[u8; ROW]; ROWS],
     doors: &mut [[u8; PLACE]; DOORS],
     door: usize,
@@ -105,7 +106,7 @@ fn offer(
     let n = read::list(line, word::TEPS, &mut list);
     let resume = read::has(line, word::RESUMING);
     link_unit::offer(
-        owners,
+        marks,
         rows,
         doors,
         door,
@@ -121,7 +122,7 @@ fn offer(
 
 // An answer without a nonce; where it is mandatory that the other side is application-aware, this side is too.
 fn answer(
-    owners: &mut [u8; ROWS],
+    marks: &mut [u32; WORDS],
     rows: &mut [[u8; ROW]; ROWS],
     doors: &mut [[u8; PLACE]; DOORS],
     door: usize,
@@ -134,7 +135,7 @@ fn answer(
     let mut list = [0u8; ROOM];
     let n = read::list(line, word::TEPS, &mut list);
     link_unit::answer(
-        owners,
+        marks,
         rows,
         doors,
         door,
@@ -148,7 +149,7 @@ fn answer(
 }
 
 fn receive(
-    owners: &[u8; ROWS],
+    marks: &[u32; WORDS],
     rows: &[[u8; ROW]; ROWS],
     doors: &mut [[u8; PLACE]; DOORS],
     door: usize,
@@ -159,7 +160,7 @@ fn receive(
     let syn = !read::has(line, word::ACK);
     let ack = !read::has(line, word::SYN);
     link_unit::receive(
-        owners,
+        marks,
         rows,
         doors,
         door,
@@ -192,13 +193,13 @@ fn secret_told(came: [u8; 32], expected: u8) {
 }
 
 fn result(
-    owners: &[u8; ROWS],
+    marks: &[u32; WORDS],
     rows: &[[u8; ROW]; ROWS],
     doors: &[[u8; PLACE]; DOORS],
     door: usize,
     lent: &mut [u8],
 ) -> Reply {
-    let told = link_unit::result(owners, rows, doors, door, lent);
+    let told = link_unit::result(marks, rows, doors, door, lent);
     let reply = told.reply;
     let secret = told.secret;
     secret_told(secret, secret_of(reply));
@@ -206,7 +207,7 @@ fn result(
 }
 
 fn store(
-    owners: &mut [u8; ROWS],
+    marks: &mut [u32; WORDS],
     rows: &mut [[u8; ROW]; ROWS],
     doors: &mut [[u8; PLACE]; DOORS],
     door: usize,
@@ -218,7 +219,7 @@ fn store(
     let n = read::list(line, word::IDENTIFIER, &mut identifier);
     let secret = [SECRET; 32];
     link_unit::store(
-        owners,
+        marks,
         rows,
         doors,
         door,
@@ -230,7 +231,7 @@ fn store(
 }
 
 fn forget(
-    owners: &mut [u8; ROWS],
+    marks: &mut [u32; WORDS],
     rows: &mut [[u8; ROW]; ROWS],
     doors: &mut [[u8; PLACE]; DOORS],
     door: usize,
@@ -240,7 +241,7 @@ fn forget(
     let mut identifier = [0u8; ROOM];
     let n = read::list(line, word::IDENTIFIER, &mut identifier);
     link_unit::forget(
-        owners,
+        marks,
         rows,
         doors,
         door,
@@ -250,19 +251,19 @@ fn forget(
 }
 
 fn record_call(
-    owners: &mut [u8; ROWS],
+    marks: &mut [u32; WORDS],
     rows: &mut [[u8; ROW]; ROWS],
     doors: &mut [[u8; PLACE]; DOORS],
     door: usize,
     line: &[u8],
 ) -> Reply {
     if read::has(line, word::STORE) {
-        return store(owners, rows, doors, door, line);
+        return store(marks, rows, doors, door, line);
     }
     if read::has(line, word::FORGET) {
-        return forget(owners, rows, doors, door, line);
+        return forget(marks, rows, doors, door, line);
     }
-    link_unit::count(owners, rows, doors, door)
+    link_unit::count(marks, rows, doors, door)
 }
 
 // The door that a line names; 7 where it names none.
@@ -275,7 +276,7 @@ fn door_of(line: &[u8]) -> usize {
 
 // The call of a line: what stands before its arrow.
 fn call(
-    owners: &mut [u8; ROWS],
+    marks: &mut [u32; WORDS],
     rows: &mut [[u8; ROW]; ROWS],
     doors: &mut [[u8; PLACE]; DOORS],
     line: &[u8],
@@ -283,31 +284,31 @@ fn call(
 ) -> Reply {
     let door = door_of(line);
     if read::has(line, word::OFFER) {
-        return offer(owners, rows, doors, door, line, lent);
+        return offer(marks, rows, doors, door, line, lent);
     }
     if read::has(line, word::ANSWER) {
-        return answer(owners, rows, doors, door, line, lent);
+        return answer(marks, rows, doors, door, line, lent);
     }
     if read::has(line, word::AREA) {
-        return receive(owners, rows, doors, door, line);
+        return receive(marks, rows, doors, door, line);
     }
     if read::has(line, word::RESEND) {
-        return link_unit::resend(owners, rows, doors, door, lent);
+        return link_unit::resend(marks, rows, doors, door, lent);
     }
     if read::has(line, word::RESULT) {
-        return result(owners, rows, doors, door, lent);
+        return result(marks, rows, doors, door, lent);
     }
-    record_call(owners, rows, doors, door, line)
+    record_call(marks, rows, doors, door, line)
 }
 
 // Makes the call of a line and holds the line against what came.
 pub fn made(
-    owners: &mut [u8; ROWS],
+    marks: &mut [u32; WORDS],
     rows: &mut [[u8; ROW]; ROWS],
     doors: &mut [[u8; PLACE]; DOORS],
     line: &[u8],
 ) {
     let mut lent = [say::FILL; say::LENT];
-    let reply = call(owners, rows, doors, read::given(line), &mut lent);
+    let reply = call(marks, rows, doors, read::given(line), &mut lent);
     say::check(line, answer_of(reply), &lent, say::FILL);
 }

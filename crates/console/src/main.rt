@@ -19,6 +19,7 @@ use link_unit::DOORS;
 use link_unit::PLACE;
 use link_unit::ROW;
 use link_unit::ROWS;
+use link_unit::WORDS;
 
 // A reading loop has to end: no input reaches this many turns.
 const TURNS: u64 = 0x8000_0000_0000_0000;
@@ -49,7 +50,7 @@ fn called_without_unit(
 
 // Makes the call of a form, by its number in the list of run_line, and puts its reply's words.
 fn called(
-    owners: &mut [u8; ROWS],
+    marks: &mut [u32; WORDS],
     rows: &mut [[u8; ROW]; ROWS],
     doors: &mut [[u8; PLACE]; DOORS],
     record: GenerationRecord,
@@ -60,7 +61,7 @@ fn called(
     out: &mut [u8],
 ) -> Called {
     if form < 10 {
-        let end = unit_calls::call(owners, rows, doors, form, words, bytes, lent, out);
+        let end = unit_calls::call(marks, rows, doors, form, words, bytes, lent, out);
         return Called { record, end };
     }
     called_without_unit(record, form, words, bytes, lent, out)
@@ -76,7 +77,7 @@ fn and_lent(out: &mut [u8], at: usize, lends: bool, lent: &[u8]) -> usize {
 
 // Runs a form and writes its reply.
 fn run_form(
-    owners: &mut [u8; ROWS],
+    marks: &mut [u32; WORDS],
     rows: &mut [[u8; ROW]; ROWS],
     doors: &mut [[u8; PLACE]; DOORS],
     record: GenerationRecord,
@@ -90,7 +91,7 @@ fn run_form(
     // being a nonce of 32 and a key of 56 bytes, stay under 200 bytes.
     let mut out = [0u8; 24576];
     let after = called(
-        owners,
+        marks,
         rows,
         doors,
         record,
@@ -112,7 +113,7 @@ fn run_form(
 // Runs a line. The forms stand here, one a line, and beside them the kinds of their words, a letter each:
 // n is a number, s one to 65,535, o one to 255, f a flag, t two hex digits, c a cipher, p ciphers, e those that are enabled, b bytes and l the lent buffer.
 fn run_line(
-    owners: &mut [u8; ROWS],
+    marks: &mut [u32; WORDS],
     rows: &mut [[u8; ROW]; ROWS],
     doors: &mut [[u8; PLACE]; DOORS],
     record: GenerationRecord,
@@ -191,7 +192,7 @@ f
         Asked::Form { form, room, lends } => {
             let n = text::within(room, &lent);
             run_form(
-                owners,
+                marks,
                 rows,
                 doors,
                 record,
@@ -211,12 +212,12 @@ f
 
 // Runs the input to its end, or to a reply that cannot be written. The unit and the generation record stand here.
 fn run() {
-    let mut owners = [0u8; ROWS];
+    let mut marks = [0u32; WORDS];
     let row = [0u8; ROW];
     let mut rows = [row; ROWS];
     let door = [0u8; PLACE];
     let mut doors = [door; DOORS];
-    link_unit::erase(&mut owners, &mut rows, &mut doors);
+    link_unit::erase(&mut marks, &mut rows, &mut doors);
     let mut record = generation::first_record();
     let mut chunk = [0u8; 65536];
     // A line's 20,000 bytes, and a carriage return.
@@ -234,7 +235,7 @@ fn run() {
             number = std::num::wrapping_add_u64(number, 1);
             let words = text_lines::without_return(text_words::first(&line, place.length));
             let ran = run_line(
-                &mut owners,
+                &mut marks,
                 &mut rows,
                 &mut doors,
                 record,

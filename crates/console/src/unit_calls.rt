@@ -9,9 +9,10 @@ use link_unit::DOORS;
 use link_unit::PLACE;
 use link_unit::ROW;
 use link_unit::ROWS;
+use link_unit::WORDS;
 
 fn offer(
-    owners: &mut [u8; ROWS],
+    marks: &mut [u32; WORDS],
     rows: &mut [[u8; ROW]; ROWS],
     doors: &mut [[u8; PLACE]; DOORS],
     words: &[u64],
@@ -19,7 +20,7 @@ fn offer(
     lent: &mut [u8],
 ) -> Reply {
     link_unit::offer(
-        owners,
+        marks,
         rows,
         doors,
         number(words, 0) as usize,
@@ -34,7 +35,7 @@ fn offer(
 }
 
 fn answer(
-    owners: &mut [u8; ROWS],
+    marks: &mut [u32; WORDS],
     rows: &mut [[u8; ROW]; ROWS],
     doors: &mut [[u8; PLACE]; DOORS],
     words: &[u64],
@@ -42,7 +43,7 @@ fn answer(
     lent: &mut [u8],
 ) -> Reply {
     link_unit::answer(
-        owners,
+        marks,
         rows,
         doors,
         number(words, 0) as usize,
@@ -56,7 +57,7 @@ fn answer(
 }
 
 fn receive(
-    owners: &[u8; ROWS],
+    marks: &[u32; WORDS],
     rows: &[[u8; ROW]; ROWS],
     doors: &mut [[u8; PLACE]; DOORS],
     words: &[u64],
@@ -65,7 +66,7 @@ fn receive(
     let door = number(words, 0) as usize;
     let area = taken(words, bytes, 3);
     link_unit::receive(
-        owners,
+        marks,
         rows,
         doors,
         door,
@@ -76,14 +77,14 @@ fn receive(
 }
 
 fn store(
-    owners: &mut [u8; ROWS],
+    marks: &mut [u32; WORDS],
     rows: &mut [[u8; ROW]; ROWS],
     doors: &mut [[u8; PLACE]; DOORS],
     words: &[u64],
     bytes: &[u8],
 ) -> Reply {
     link_unit::store(
-        owners,
+        marks,
         rows,
         doors,
         number(words, 0) as usize,
@@ -95,7 +96,7 @@ fn store(
 }
 
 fn forget(
-    owners: &mut [u8; ROWS],
+    marks: &mut [u32; WORDS],
     rows: &mut [[u8; ROW]; ROWS],
     doors: &mut [[u8; PLACE]; DOORS],
     words: &[u64],
@@ -103,7 +104,7 @@ fn forget(
 ) -> Reply {
     let door = number(words, 0) as usize;
     link_unit::forget(
-        owners,
+        marks,
         rows,
         doors,
         door,
@@ -114,7 +115,7 @@ fn forget(
 
 // The last arm is form 7.
 fn made(
-    owners: &mut [u8; ROWS],
+    marks: &mut [u32; WORDS],
     rows: &mut [[u8; ROW]; ROWS],
     doors: &mut [[u8; PLACE]; DOORS],
     form: usize,
@@ -123,15 +124,15 @@ fn made(
     lent: &mut [u8],
 ) -> Reply {
     match form {
-        0 => offer(owners, rows, doors, words, bytes, lent),
-        1 => answer(owners, rows, doors, words, bytes, lent),
-        2 => receive(owners, rows, doors, words, bytes),
-        3 => link_unit::resend(owners, rows, doors, number(words, 0) as usize, lent),
-        5 => link_unit::close(owners, rows, doors, number(words, 0) as usize),
-        8 => link_unit::count(owners, rows, doors, number(words, 0) as usize),
-        9 => link_unit::erase(owners, rows, doors),
-        6 => store(owners, rows, doors, words, bytes),
-        _ => forget(owners, rows, doors, words, bytes),
+        0 => offer(marks, rows, doors, words, bytes, lent),
+        1 => answer(marks, rows, doors, words, bytes, lent),
+        2 => receive(marks, rows, doors, words, bytes),
+        3 => link_unit::resend(marks, rows, doors, number(words, 0) as usize, lent),
+        5 => link_unit::close(marks, rows, doors, number(words, 0) as usize),
+        8 => link_unit::count(marks, rows, doors, number(words, 0) as usize),
+        9 => link_unit::erase(marks, rows, doors),
+        6 => store(marks, rows, doors, words, bytes),
+        _ => forget(marks, rows, doors, words, bytes),
     }
 }
 
@@ -147,14 +148,14 @@ fn done_place(form: usize) -> usize {
 
 // The result, with a resumed session's secret.
 fn result(
-    owners: &[u8; ROWS],
+    marks: &[u32; WORDS],
     rows: &[[u8; ROW]; ROWS],
     doors: &[[u8; PLACE]; DOORS],
     words: &[u64],
     lent: &mut [u8],
     out: &mut [u8],
 ) -> usize {
-    let told = link_unit::result(owners, rows, doors, number(words, 0) as usize, lent);
+    let told = link_unit::result(marks, rows, doors, number(words, 0) as usize, lent);
     let reply = told.reply;
     let secret = told.secret;
     put_reply(out, reply, b"", &secret)
@@ -162,7 +163,7 @@ fn result(
 
 // Makes a call and puts its reply's words.
 pub fn call(
-    owners: &mut [u8; ROWS],
+    marks: &mut [u32; WORDS],
     rows: &mut [[u8; ROW]; ROWS],
     doors: &mut [[u8; PLACE]; DOORS],
     form: usize,
@@ -172,9 +173,9 @@ pub fn call(
     out: &mut [u8],
 ) -> usize {
     if form == 4 {
-        return result(owners, rows, doors, words, lent, out);
+        return result(marks, rows, doors, words, lent, out);
     }
-    let reply = made(owners, rows, doors, form, words, bytes, lent);
+    let reply = made(marks, rows, doors, form, words, bytes, lent);
     let done = b"closed stored forgotten erased";
     put_reply(out, reply, text_words::word(done, done_place(form)), b"")
 }

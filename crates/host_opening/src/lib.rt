@@ -5,6 +5,7 @@ use link_unit::DOORS;
 use link_unit::PLACE;
 use link_unit::ROW;
 use link_unit::ROWS;
+use link_unit::WORDS;
 ghost use Rattle.door.specs.Calls.{offer, answer};
 ghost use Rattle.unit.specs.Run.{on, step};
 ghost use Rattle.unit_bytes.specs.Content.{unitIn};
@@ -14,7 +15,7 @@ ghost use Rattle.host_step.specs.Replies.{Gives};
 // An active open, or one that may cross: writes this end's option.
 #[no_mangle]
 pub extern "C" fn door_link_offer(
-    owners: &mut [u8; ROWS],
+    marks: &mut [u32; WORDS],
     rows: &mut [[u8; ROW]; ROWS],
     doors: &mut [[u8; PLACE]; DOORS],
     door: usize,
@@ -26,10 +27,10 @@ pub extern "C" fn door_link_offer(
     nonce: &[u8],
     out: &mut [u8],
 ) -> ReplyNumbers
-    ensures { λ r. ⌜ (Gives r (now (out .exit)) (unitIn (now (owners .exit)) (now (rows .exit)) (now (doors .exit))) (step (unitIn (now (owners .entry)) (now (rows .entry)) (now (doors .entry))) (on door (offer b aware mandatory (now (teps .entry)) resume (now (nonce .entry)) (now (out .entry)))))) × DoorsKept door (now (doors .entry)) (now (doors .exit)) ⌝ }
+    ensures { λ r. ⌜ (Gives r (now (out .exit)) (unitIn (now (marks .exit)) (now (rows .exit)) (now (doors .exit))) (step (unitIn (now (marks .entry)) (now (rows .entry)) (now (doors .entry))) (on door (offer b aware mandatory (now (teps .entry)) resume (now (nonce .entry)) (now (out .entry)))))) × DoorsKept door (now (doors .entry)) (now (doors .exit)) ⌝ }
 {
     let told = link_unit::offer(
-        owners,
+        marks,
         rows,
         doors,
         door,
@@ -47,7 +48,7 @@ pub extern "C" fn door_link_offer(
 // A passive open: takes the area of a received SYN and writes this end's option, or ends in plain TCP.
 #[no_mangle]
 pub extern "C" fn door_link_answer(
-    owners: &mut [u8; ROWS],
+    marks: &mut [u32; WORDS],
     rows: &mut [[u8; ROW]; ROWS],
     doors: &mut [[u8; PLACE]; DOORS],
     door: usize,
@@ -58,10 +59,10 @@ pub extern "C" fn door_link_answer(
     nonce: &[u8],
     out: &mut [u8],
 ) -> ReplyNumbers
-    ensures { λ r. ⌜ (Gives r (now (out .exit)) (unitIn (now (owners .exit)) (now (rows .exit)) (now (doors .exit))) (step (unitIn (now (owners .entry)) (now (rows .entry)) (now (doors .entry))) (on door (answer (now (area .entry)) aware mandatory (now (teps .entry)) (now (nonce .entry)) (now (out .entry)))))) × DoorsKept door (now (doors .entry)) (now (doors .exit)) ⌝ }
+    ensures { λ r. ⌜ (Gives r (now (out .exit)) (unitIn (now (marks .exit)) (now (rows .exit)) (now (doors .exit))) (step (unitIn (now (marks .entry)) (now (rows .entry)) (now (doors .entry))) (on door (answer (now (area .entry)) aware mandatory (now (teps .entry)) (now (nonce .entry)) (now (out .entry)))))) × DoorsKept door (now (doors .entry)) (now (doors .exit)) ⌝ }
 {
     let told = link_unit::answer(
-        owners,
+        marks,
         rows,
         doors,
         door,

@@ -5,6 +5,7 @@ use link_unit::DOORS;
 use link_unit::PLACE;
 use link_unit::ROW;
 use link_unit::ROWS;
+use link_unit::WORDS;
 ghost use mathlib.Core.List.{[]};
 ghost use Rattle.door.specs.Calls.{receive, close};
 ghost use Rattle.unit.specs.Run.{on, step};
@@ -15,7 +16,7 @@ ghost use Rattle.host_step.specs.Replies.{Gives};
 // A received segment: its SYN and ACK flags and its option area.
 #[no_mangle]
 pub extern "C" fn door_link_receive(
-    owners: &[u8; ROWS],
+    marks: &[u32; WORDS],
     rows: &[[u8; ROW]; ROWS],
     doors: &mut [[u8; PLACE]; DOORS],
     door: usize,
@@ -23,22 +24,22 @@ pub extern "C" fn door_link_receive(
     ack: bool,
     area: &[u8],
 ) -> ReplyNumbers
-    ensures { λ r. ⌜ (Gives r [] (unitIn (now (owners .entry)) (now (rows .entry)) (now (doors .exit))) (step (unitIn (now (owners .entry)) (now (rows .entry)) (now (doors .entry))) (on door (receive syn ack (now (area .entry)))))) × DoorsKept door (now (doors .entry)) (now (doors .exit)) ⌝ }
+    ensures { λ r. ⌜ (Gives r [] (unitIn (now (marks .entry)) (now (rows .entry)) (now (doors .exit))) (step (unitIn (now (marks .entry)) (now (rows .entry)) (now (doors .entry))) (on door (receive syn ack (now (area .entry)))))) × DoorsKept door (now (doors .entry)) (now (doors .exit)) ⌝ }
 {
-    let told = link_unit::receive(owners, rows, doors, door, syn, ack, area);
+    let told = link_unit::receive(marks, rows, doors, door, syn, ack, area);
     reply_numbers(told)
 }
 
 // The connection is over: Idle.
 #[no_mangle]
 pub extern "C" fn door_link_close(
-    owners: &[u8; ROWS],
+    marks: &[u32; WORDS],
     rows: &[[u8; ROW]; ROWS],
     doors: &mut [[u8; PLACE]; DOORS],
     door: usize,
 ) -> ReplyNumbers
-    ensures { λ r. ⌜ (Gives r [] (unitIn (now (owners .entry)) (now (rows .entry)) (now (doors .exit))) (step (unitIn (now (owners .entry)) (now (rows .entry)) (now (doors .entry))) (on door close))) × DoorsKept door (now (doors .entry)) (now (doors .exit)) ⌝ }
+    ensures { λ r. ⌜ (Gives r [] (unitIn (now (marks .entry)) (now (rows .entry)) (now (doors .exit))) (step (unitIn (now (marks .entry)) (now (rows .entry)) (now (doors .entry))) (on door close))) × DoorsKept door (now (doors .entry)) (now (doors .exit)) ⌝ }
 {
-    let told = link_unit::close(owners, rows, doors, door);
+    let told = link_unit::close(marks, rows, doors, door);
     reply_numbers(told)
 }

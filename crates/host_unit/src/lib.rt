@@ -5,31 +5,33 @@ use link_unit::DOORS;
 use link_unit::PLACE;
 use link_unit::ROW;
 use link_unit::ROWS;
+use link_unit::WORD;
+use link_unit::WORDS;
 ghost use Prim.Native.Nat.{_+_, _*_};
 ghost use mathlib.Core.Path.{_≡_};
 ghost use mathlib.Core.List.{[]};
-ghost use Rattle.unit.specs.Numbers.{doorsN, rowsN};
+ghost use Rattle.unit.specs.Numbers.{doorsN, rowsN, wordsN};
 ghost use Rattle.unit.specs.Run.{step};
 ghost use Rattle.unit.specs.Run as run;
-ghost use Rattle.unit_bytes.specs.Layout.{rowSize, doorSize};
+ghost use Rattle.unit_bytes.specs.Layout.{wordSize, rowSize, doorSize};
 ghost use Rattle.unit_bytes.specs.Content.{unitIn};
 ghost use Rattle.pool.specs.Placed.{Erased};
 ghost use Rattle.host_step.specs.Replies.{Gives};
 
-const UNIT_SIZE: usize = ROWS + ROWS * ROW + DOORS * PLACE;
+const UNIT_SIZE: usize = WORDS * WORD + ROWS * ROW + DOORS * PLACE;
 
 // The number of this interface, which its name carries: a host built for another does not link.
 #[no_mangle]
-pub extern "C" fn door_link_abi_2() -> usize
-    ensures { λ r. ⌜ r ≡ 2 ⌝ }
+pub extern "C" fn door_link_abi_3() -> usize
+    ensures { λ r. ⌜ r ≡ 3 ⌝ }
 {
-    2
+    3
 }
 
-// The bytes of the three arrays: owners, rows and doors.
+// The bytes of the three arrays: words of marks, rows and doors.
 #[no_mangle]
 pub extern "C" fn door_link_unit_size() -> usize
-    ensures { λ r. ⌜ r ≡ rowsN + rowsN * rowSize + doorsN * doorSize ⌝ }
+    ensures { λ r. ⌜ r ≡ wordsN * wordSize + rowsN * rowSize + doorsN * doorSize ⌝ }
 {
     UNIT_SIZE
 }
@@ -37,12 +39,12 @@ pub extern "C" fn door_link_unit_size() -> usize
 // Empties the whole unit, whatever its bytes are: all doors Idle, no record held or in hand, every byte zero.
 #[no_mangle]
 pub extern "C" fn door_link_erase(
-    owners: &mut [u8; ROWS],
+    marks: &mut [u32; WORDS],
     rows: &mut [[u8; ROW]; ROWS],
     doors: &mut [[u8; PLACE]; DOORS],
 ) -> ReplyNumbers
-    ensures { λ r. ⌜ (Gives r [] (unitIn (now (owners .exit)) (now (rows .exit)) (now (doors .exit))) (step (unitIn (now (owners .entry)) (now (rows .entry)) (now (doors .entry))) run.erase)) × Erased (now (owners .exit)) (now (rows .exit)) (now (doors .exit)) ⌝ }
+    ensures { λ r. ⌜ (Gives r [] (unitIn (now (marks .exit)) (now (rows .exit)) (now (doors .exit))) (step (unitIn (now (marks .entry)) (now (rows .entry)) (now (doors .entry))) run.erase)) × Erased (now (marks .exit)) (now (rows .exit)) (now (doors .exit)) ⌝ }
 {
-    let told = link_unit::erase(owners, rows, doors);
+    let told = link_unit::erase(marks, rows, doors);
     reply_numbers(told)
 }

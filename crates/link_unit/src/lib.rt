@@ -2,8 +2,10 @@
 use door::Reply;
 pub use unit::DOORS;
 pub use unit::ROWS;
+pub use unit::WORDS;
 pub use unit_bytes::PLACE;
 pub use unit_bytes::ROW;
+pub use unit_bytes::WORD;
 pub use unit_opening::answer;
 pub use unit_opening::offer;
 pub use unit_records::count;
@@ -24,12 +26,12 @@ ghost use Rattle.unit_step.specs.Steps.{stepOf};
 
 // Empties the whole unit, whatever its bytes are: all doors Idle, no record held or in hand, every byte zero.
 pub fn erase(
-    owners: &mut [u8; ROWS],
+    marks: &mut [u32; WORDS],
     rows: &mut [[u8; ROW]; ROWS],
     doors: &mut [[u8; PLACE]; DOORS],
 ) -> Reply
-    ensures { λ r. ⌜ (stepOf r [] (unitIn (now (owners .exit)) (now (rows .exit)) (now (doors .exit))) ≡ step (unitIn (now (owners .entry)) (now (rows .entry)) (now (doors .entry))) run.erase) × Erased (now (owners .exit)) (now (rows .exit)) (now (doors .exit)) ⌝ }
+    ensures { λ r. ⌜ (stepOf r [] (unitIn (now (marks .exit)) (now (rows .exit)) (now (doors .exit))) ≡ step (unitIn (now (marks .entry)) (now (rows .entry)) (now (doors .entry))) run.erase) × Erased (now (marks .exit)) (now (rows .exit)) (now (doors .exit)) ⌝ }
 {
-    pool::erase(owners, rows, doors);
+    pool::erase(marks, rows, doors);
     Reply::Done
 }

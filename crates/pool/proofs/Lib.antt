@@ -1,3 +1,2 @@
 -- Laws of the pool's functions.
-pub mod Rows
 pub mod Gathering

@@ -1,5 +1,5 @@
 -- Laws of a door or a row in its place: how the code's ways lead to it, and that no other door is touched. Assumes nothing.
-use Prim.Native.Nat.{ℕ, suc, _≤_, _<_}
+use Prim.Native.Nat.{ℕ, _≤_, _<_}
 use mathlib.Core.Path.{_≡_, refl, sym, _∙_, ap, subst}
 use mathlib.Core.Bool.{Bool, true, false, cond, false≢true}
 use mathlib.Core.List.{List, []}
@@ -14,7 +14,8 @@ use Rattle.door.specs.Outcome.{keep}
 use Rattle.door.specs.declared.Change.{Change}
 use Rattle.door.specs.declared.Door.{Door}
 use Rattle.unit.specs.Numbers.{doorsN, rowsN}
-use Rattle.unit.specs.Unit.{idlePosition, positionAt, ownersAfter, rowsAfter, positionAfter, enact}
+use Rattle.unit.specs.Marks.{withMark, markFor}
+use Rattle.unit.specs.Unit.{idlePosition, positionAt, marksAfter, rowsAfter, positionAfter, enact}
 use Rattle.unit.specs.declared.Position.{Position}
 use Rattle.unit_bytes.specs.Layout.{doorSize}
 use Rattle.unit_bytes.specs.Content.{recordIn, rowOf, positionIn, bytesOf, unitIn}
@@ -66,14 +67,14 @@ put-kept doors after d x p = subst (λ (l : List (List ℕ)). DoorsKept d doors 
     go false e = doors-same d doors
 
 -- an effect carried out touches no other door
-pub enacts-kept : (owners owners′ : List ℕ) (rows rows′ doors doors′ : List (List ℕ)) (d : ℕ) (x : Position) (free : ℕ) (l : Door) (c : Change) (r : SessionRecord)
-    → Enacts owners owners′ rows rows′ doors doors′ d x free l c r → DoorsKept d doors doors′
-enacts-kept owners owners′ rows rows′ doors doors′ d x free l c r h = at (ltb d doorsN) refl (listingOf x (suc d) free c .fits) refl
+pub enacts-kept : (marks marks′ : List ℕ) (rows rows′ doors doors′ : List (List ℕ)) (d : ℕ) (x : Position) (free : ℕ) (l : Door) (c : Change) (r : SessionRecord)
+    → Enacts marks marks′ rows rows′ doors doors′ d x free l c r → DoorsKept d doors doors′
+enacts-kept marks marks′ rows rows′ doors doors′ d x free l c r h = at (ltb d doorsN) refl (listingOf x free c .fits) refl
   where
     unmoved : doors′ ≡ doors → DoorsKept d doors doors′
     unmoved e = subst (λ (m : List (List ℕ)). DoorsKept d doors m) (sym e) (doors-same d doors)
 
-    at : (b : Bool) → ltb d doorsN ≡ b → (f : Bool) → listingOf x (suc d) free c .fits ≡ f → DoorsKept d doors doors′
+    at : (b : Bool) → ltb d doorsN ≡ b → (f : Bool) → listingOf x free c .fits ≡ f → DoorsKept d doors doors′
     at true e true f = put-kept doors doors′ d _ (h .fit (ltb-true _ _ e) f)
     at true e false f = unmoved (h .unfit (ltb-true _ _ e) f)
     at false e g f = unmoved (h .past (ltb-false _ _ e) .doors-same)
@@ -81,62 +82,60 @@ enacts-kept owners owners′ rows rows′ doors doors′ d x free l c r h = at (
 abbrev pub withDoor : Position → Door → Position
 withDoor x l = record { door = l; count = x .count; rows = x .rows }
 
-module _ (owners : List ℕ) (rows doors : List (List ℕ)) (d : ℕ) (ours : d < doorsN) where
-  pub position-from : positionFrom doors d ≡ positionAt (unitIn owners rows doors) d
+module _ (marks : List ℕ) (rows doors : List (List ℕ)) (d : ℕ) (ours : d < doorsN) where
+  pub position-from : positionFrom doors d ≡ positionAt (unitIn marks rows doors) d
   unfolding positionFrom
-  position-from = rw (lt-ltb d doorsN ours) (sym (door-in owners rows doors d ours))
+  position-from = rw (lt-ltb d doorsN ours) (sym (door-in marks rows doors d ours))
 
   -- other data of the door
-  pub put-keeps : (after : List (List ℕ)) (x : Position) (l : Door) → x ≡ positionFrom doors d → Put doors after d (withDoor x l) → unitIn owners rows after ≡ enactFit (unitIn owners rows doors) d l keep
-  unfolding enactFit fits enact ownersAfter rowsAfter positionAfter
+  pub put-keeps : (after : List (List ℕ)) (x : Position) (l : Door) → x ≡ positionFrom doors d → Put doors after d (withDoor x l) → unitIn marks rows after ≡ enactFit (unitIn marks rows doors) d l keep
+  unfolding enactFit fits enact marksAfter rowsAfter positionAfter
   put-keeps after x l e p =
-      ap (unitIn owners rows) (p .placed ∙ ap (λ (b : Bool). cond b (set doors d (bytesOf (getD doors d []) (withDoor x l))) doors) (lt-ltb d doorsN ours))
-      ∙ (door-put owners rows doors d (bytesOf (getD doors d []) (withDoor x l)) (withDoor (positionAt (unitIn owners rows doors) d) l) ours (p .says ours ∙ ap (λ (y : Position). withDoor y l) (e ∙ position-from))
+      ap (unitIn marks rows) (p .placed ∙ ap (λ (b : Bool). cond b (set doors d (bytesOf (getD doors d []) (withDoor x l))) doors) (lt-ltb d doorsN ours))
+      ∙ (door-put marks rows doors d (bytesOf (getD doors d []) (withDoor x l)) (withDoor (positionAt (unitIn marks rows doors) d) l) ours (p .says ours ∙ ap (λ (y : Position). withDoor y l) (e ∙ position-from))
       ∙ (rw (lt-ltb d doorsN ours)))
 
-pub row-past : (owners : List ℕ) (rows : List (List ℕ)) (i o : ℕ) (b : List ℕ) (s : SessionRecord) → rowsN ≤ i → b ≡ rowOf s → recordIn b ≡ s → PutRow owners owners rows rows i o s
-row-past owners rows i o b s h q e = record { owned = rw (le-ltb i rowsN h) refl; placed = rw (le-ltb i rowsN h) refl; says = ap recordIn (sym q) ∙ e }
+pub row-past : (marks : List ℕ) (rows : List (List ℕ)) (i : ℕ) (used : Bool) (b : List ℕ) (s : SessionRecord) → rowsN ≤ i → b ≡ rowOf s → recordIn b ≡ s → PutRow marks marks rows rows i used s
+row-past marks rows i used b s h q e = record { marked = rw (le-ltb i rowsN h) refl; placed = rw (le-ltb i rowsN h) refl; says = ap recordIn (sym q) ∙ e }
 
-pub row-in-place : (owners : List ℕ) (rows : List (List ℕ)) (i o : ℕ) (b : List ℕ) (s : SessionRecord) → i < rowsN → b ≡ rowOf s → recordIn b ≡ s → PutRow owners (set owners i o) rows (set rows i b) i o s
-row-in-place owners rows i o b s h q e = record { owned = rw (lt-ltb i rowsN h) refl; placed = rw (lt-ltb i rowsN h, q) refl; says = ap recordIn (sym q) ∙ e }
+pub row-in-place : (marks after : List ℕ) (rows : List (List ℕ)) (i : ℕ) (used : Bool) (b : List ℕ) (s : SessionRecord) → i < rowsN → after ≡ withMark marks i (markFor used) → b ≡ rowOf s → recordIn b ≡ s
+    → PutRow marks after rows (set rows i b) i used s
+row-in-place marks after rows i used b s h m q e = record { marked = m ∙ rw (lt-ltb i rowsN h) refl; placed = rw (lt-ltb i rowsN h, q) refl; says = ap recordIn (sym q) ∙ e }
 
 -- an effect as the code carries it out: the list after the change, the row's record, then both stored
-pub enacts-past : (owners : List ℕ) (rows doors : List (List ℕ)) (d : ℕ) (x : Position) (free : ℕ) (l : Door) (c : Change) (r : SessionRecord) → doorsN ≤ d → Enacts owners owners rows rows doors doors d x free l c r
-enacts-past owners rows doors d x free l c r h =
+pub enacts-past : (marks : List ℕ) (rows doors : List (List ℕ)) (d : ℕ) (x : Position) (free : ℕ) (l : Door) (c : Change) (r : SessionRecord) → doorsN ≤ d → Enacts marks marks rows rows doors doors d x free l c r
+enacts-past marks rows doors d x free l c r h =
     record {
-      past = λ k. record { owners-same = refl; rows-same = refl; doors-same = refl };
+      past = λ k. record { marks-same = refl; rows-same = refl; doors-same = refl };
       row = λ k. absurd (omega arith);
       fit = λ k f. absurd (omega arith);
       unfit = λ k f. absurd (omega arith);
       size = λ k. absurd (omega arith);
     }
 
-module _ (owners owners′ : List ℕ) (rows rows′ doors doors′ : List (List ℕ)) (d : ℕ) (x : Position) (free : ℕ) (l : Door) (c : Change) (r s : SessionRecord) (n : Listing) (owner : ℕ) (ours : d < doorsN) (mark : owner ≡ suc d)
-    (list : n ≡ listingOf x owner free c) (kept : s ≡ sessionAfter c r) (sized : length (x .rows) ≡ eachN) (stored : PutRow owners owners′ rows rows′ (n .row) (n .owner) s) where
-  listing : n ≡ listingOf x (suc d) free c
-  listing = list ∙ ap (λ (o : ℕ). listingOf x o free c) mark
-
-  row-there : PutRow owners owners′ rows rows′ (listingOf x (suc d) free c .row) (listingOf x (suc d) free c .owner) (sessionAfter c r)
+module _ (marks marks′ : List ℕ) (rows rows′ doors doors′ : List (List ℕ)) (d : ℕ) (x : Position) (free : ℕ) (l : Door) (c : Change) (r s : SessionRecord) (n : Listing) (ours : d < doorsN)
+    (list : n ≡ listingOf x free c) (kept : s ≡ sessionAfter c r) (sized : length (x .rows) ≡ eachN) (stored : PutRow marks marks′ rows rows′ (n .row) (n .used) s) where
+  row-there : PutRow marks marks′ rows rows′ (listingOf x free c .row) (listingOf x free c .used) (sessionAfter c r)
   row-there =
-      subst (λ (m : Listing). PutRow owners owners′ rows rows′ (m .row) (m .owner) (sessionAfter c r)) listing
-      (subst (λ (t : SessionRecord). PutRow owners owners′ rows rows′ (n .row) (n .owner) t) kept stored)
+      subst (λ (m : Listing). PutRow marks marks′ rows rows′ (m .row) (m .used) (sessionAfter c r)) list
+      (subst (λ (t : SessionRecord). PutRow marks marks′ rows rows′ (n .row) (n .used) t) kept stored)
 
-  pub enacts-fit : n .fits ≡ true → Put doors doors′ d (positionOf l (n .count) (n .numbers)) → Enacts owners owners′ rows rows′ doors doors′ d x free l c r
+  pub enacts-fit : n .fits ≡ true → Put doors doors′ d (positionOf l (n .count) (n .numbers)) → Enacts marks marks′ rows rows′ doors doors′ d x free l c r
   enacts-fit e put =
       record {
         past = λ k. absurd (omega arith);
         row = λ k. row-there;
-        fit = λ k f. subst (λ (m : Listing). Put doors doors′ d (positionOf l (m .count) (m .numbers))) listing put;
-        unfit = λ k f. absurd (false≢true (sym f ∙ (ap (λ (m : Listing). m .fits) (sym listing) ∙ e)));
+        fit = λ k f. subst (λ (m : Listing). Put doors doors′ d (positionOf l (m .count) (m .numbers))) list put;
+        unfit = λ k f. absurd (false≢true (sym f ∙ (ap (λ (m : Listing). m .fits) (sym list) ∙ e)));
         size = λ k. sized;
       }
 
-  pub enacts-unfit : n .fits ≡ false → doors′ ≡ doors → Enacts owners owners′ rows rows′ doors doors′ d x free l c r
+  pub enacts-unfit : n .fits ≡ false → doors′ ≡ doors → Enacts marks marks′ rows rows′ doors doors′ d x free l c r
   enacts-unfit e same =
       record {
         past = λ k. absurd (omega arith);
         row = λ k. row-there;
-        fit = λ k f. absurd (false≢true (sym e ∙ (ap (λ (m : Listing). m .fits) listing ∙ f)));
+        fit = λ k f. absurd (false≢true (sym e ∙ (ap (λ (m : Listing). m .fits) list ∙ f)));
         unfit = λ k f. same;
         size = λ k. sized;
       }

@@ -7,25 +7,24 @@ use eno::SessionRecord;
 use unit::DOORS;
 use unit::Position;
 use unit::ROWS;
+use unit::WORDS;
 use unit_bytes::PLACE;
 use unit_bytes::ROW;
 ghost use mathlib.Core.Path.{_≡_};
-ghost use Rattle.unit.specs.Unit.{firstFree};
-ghost use lib.ListN.{length, getD};
+ghost use lib.ListN.{getD};
 ghost use Rattle.door.specs.Door.{noSession, seenOf};
-ghost use Rattle.unit.specs.Numbers.{rowsN};
 ghost use Rattle.unit_bytes.specs.Content.{rowsIn};
 ghost use Rattle.pool.specs.Placed.{Erased, positionFrom, Put, PutRow, seenIn, viewIn, Enacts};
 
-// The empty unit: rows and doors of zeros.
+// The empty unit: no row marked, rows and doors of zeros.
 pub fn erase(
-    owners: &mut [u8; ROWS],
+    marks: &mut [u32; WORDS],
     rows: &mut [[u8; ROW]; ROWS],
     doors: &mut [[u8; PLACE]; DOORS],
 )
-    ensures { λ _. ⌜ Erased (now (owners .exit)) (now (rows .exit)) (now (doors .exit)) ⌝ }
+    ensures { λ _. ⌜ Erased (now (marks .exit)) (now (rows .exit)) (now (doors .exit)) ⌝ }
 {
-    *owners = [0u8; ROWS];
+    *marks = [0u32; WORDS];
     let row = [0u8; ROW];
     *rows = [row; ROWS];
     let door = [0u8; PLACE];
@@ -54,28 +53,6 @@ pub fn put_door(doors: &mut [[u8; PLACE]; DOORS], d: usize, position: Position)
     let old = doors[d];
     let bytes = door_writer::bytes_of(old, position);
     doors[d] = bytes;
-}
-
-// The lowest free row; the number of rows where none is free.
-pub fn first_free(owners: &[u8]) -> usize
-    ensures { λ r. ⌜ r ≡ firstFree (now (owners .entry)) ⌝ }
-{
-    let n = owners.len();
-    let mut i = 0;
-    while i < n {
-        if owners[i] == 0 {
-            return i;
-        }
-        i += 1;
-    }
-    i
-}
-
-// The same for all owners, which are as many as there are rows.
-pub fn lowest_free(owners: [u8; ROWS]) -> usize
-    ensures { λ r. ⌜ (r ≡ firstFree owners) × (length owners ≡ rowsN) ⌝ }
-{
-    first_free(&owners)
 }
 
 // The record of a row; past the last the empty record.
@@ -110,27 +87,29 @@ pub fn view_of(rows: &[[u8; ROW]; ROWS], position: Position) -> View
     }
 }
 
-// A row and its owner put in their places; past the last nothing is changed.
+// A row and its mark put in their places; past the last nothing is changed.
 fn put_row(
-    owners: &mut [u8; ROWS],
+    marks: &mut [u32; WORDS],
     rows: &mut [[u8; ROW]; ROWS],
     row: usize,
-    owner: u8,
+    used: bool,
     session: SessionRecord,
 )
-    ensures { λ _. ⌜ PutRow (now (owners .entry)) (now (owners .exit)) (now (rows .entry)) (now (rows .exit)) row owner session ⌝ }
+    ensures { λ _. ⌜ PutRow (now (marks .entry)) (now (marks .exit)) (now (rows .entry)) (now (rows .exit)) row used session ⌝ }
 {
     let bytes = unit_bytes::row_of(session);
     if ROWS <= row {
         return;
     }
-    owners[row] = owner;
+    let words = *marks;
+    let after = marks::with_mark(words, row, used);
+    *marks = after;
     rows[row] = bytes;
 }
 
 // A call's effect carried out; `added` is the record of a change that adds one.
 pub fn enacted(
-    owners: &mut [u8; ROWS],
+    marks: &mut [u32; WORDS],
     rows: &mut [[u8; ROW]; ROWS],
     doors: &mut [[u8; PLACE]; DOORS],
     d: usize,
@@ -140,15 +119,14 @@ pub fn enacted(
     change: Change,
     added: SessionRecord,
 )
-    ensures { λ _. ⌜ Enacts (now (owners .entry)) (now (owners .exit)) (now (rows .entry)) (now (rows .exit)) (now (doors .entry)) (now (doors .exit)) d position free after change added ⌝ }
+    ensures { λ _. ⌜ Enacts (now (marks .entry)) (now (marks .exit)) (now (rows .entry)) (now (rows .exit)) (now (doors .entry)) (now (doors .exit)) d position free after change added ⌝ }
 {
     if DOORS <= d {
         return;
     }
-    let owner = (d + 1) as u8;
-    let next = row_list::list_after(position, owner, change, free);
+    let next = row_list::list_after(position, change, free);
     let session = row_list::session_after(change, added);
-    put_row(owners, rows, next.row, next.owner, session);
+    put_row(marks, rows, next.row, next.used, session);
     if next.fits {
         let numbers = next.numbers;
         let to = Position {

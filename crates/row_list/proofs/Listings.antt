@@ -1,5 +1,6 @@
 -- A door's list after a change, case by case, as the code makes it.
 use mathlib.Core.Path.{_≡_, sym, ap, _∙_}
+use mathlib.Core.Bool.{true, false}
 use mathlib.Core.List.{List, [], _∷_, _++_}
 use Prim.Native.Nat.{ℕ, suc, _-_, _≤_, _<_}
 use borrow.Author.Tests.{lt-ltb, le-ltb}
@@ -18,17 +19,17 @@ use Rattle.row_list.specs.declared.Listing.{Listing}
 
 module _ (numbers : List ℕ) (n : ℕ) where
   -- one row more
-  module _ (owner row : ℕ) where
-    pub too-many : eachN ≤ n → unfit numbers ≡ longer numbers n owner row
+  module _ (row : ℕ) where
+    pub too-many : eachN ≤ n → unfit numbers ≡ longer numbers n row
     unfolding longer
     too-many h = rw (le-ltb n eachN h)
 
     module _ (few : n < eachN) where
-      pub none-free : rowsN ≤ row → unfit numbers ≡ longer numbers n owner row
+      pub none-free : rowsN ≤ row → unfit numbers ≡ longer numbers n row
       unfolding longer
       none-free h = rw (lt-ltb n eachN few, le-ltb row rowsN h)
 
-      pub one-more : (count : ℕ) → row < rowsN → count ≡ suc n → listed row owner count (set numbers n row) ≡ longer numbers n owner row
+      pub one-more : (count : ℕ) → row < rowsN → count ≡ suc n → listed row true count (set numbers n row) ≡ longer numbers n row
       unfolding longer
       one-more count h e = rw (e, lt-ltb n eachN few, lt-ltb row rowsN h)
 
@@ -38,22 +39,22 @@ module _ (numbers : List ℕ) (n : ℕ) where
     unfolding shorter
     not-listed h = rw (le-ltb j n h)
 
-    pub one-less : (row count : ℕ) (left : List ℕ) → j < n → row ≡ getD numbers j 0 → count ≡ n - 1 → left ≡ cut j numbers ++ 0 ∷ [] → listed row 0 count left ≡ shorter numbers n j
+    pub one-less : (row count : ℕ) (left : List ℕ) → j < n → row ≡ getD numbers j 0 → count ≡ n - 1 → left ≡ cut j numbers ++ 0 ∷ [] → listed row false count left ≡ shorter numbers n j
     unfolding shorter
     one-less row count left h e f g = rw (e, f, g, lt-ltb j n h)
 
 -- the three changes
-module _ (x : Position) (owner free : ℕ) (c : Change) where
-  pub list-kept : c ≡ change.Keep → listed rowsN 0 (x .count) (x .rows) ≡ listingOf x owner free c
+module _ (x : Position) (free : ℕ) (c : Change) where
+  pub list-kept : c ≡ change.Keep → listed rowsN false (x .count) (x .rows) ≡ listingOf x free c
   unfolding listingOf
   list-kept e = rw e
 
   module _ (n : ℕ) (r : Listing) (counted : n ≡ countOf x) where
-    pub list-longer : c ≡ change.Add → r ≡ longer (x .rows) n owner free → r ≡ listingOf x owner free c
+    pub list-longer : c ≡ change.Add → r ≡ longer (x .rows) n free → r ≡ listingOf x free c
     unfolding listingOf
     list-longer e f = f ∙ rw (e, counted)
 
-    pub list-shorter : (j : ℕ) → c ≡ change.Remove j → r ≡ shorter (x .rows) n j → r ≡ listingOf x owner free c
+    pub list-shorter : (j : ℕ) → c ≡ change.Remove j → r ≡ shorter (x .rows) n j → r ≡ listingOf x free c
     unfolding listingOf
     list-shorter j e f = f ∙ rw (e, counted)
 

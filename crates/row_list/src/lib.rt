@@ -15,11 +15,11 @@ ghost use Rattle.row_list.specs.Listed.{unfit, longer, shorter, listingO
 
 const LAST: usize = EACH - 1;
 
-// The list after a change, with the row that is taken or freed and its owner; the number of rows stands for no row.
+// The list after a change, with the row that is taken or freed and whether it is in use then; the number of rows stands for no row.
 pub struct Listing {
     pub fits: bool,
     pub row: usize,
-    pub owner: u8,
+    pub used: bool,
     pub count: u8,
     pub numbers: [u8; EACH],
 }
@@ -53,15 +53,15 @@ fn misfit(numbers: [u8; EACH]) -> Listing
     Listing {
         fits: false,
         row: ROWS,
-        owner: 0,
+        used: false,
         count: 0,
         numbers,
     }
 }
 
 // The list with one row more, last; a full list, or no free row, does not fit.
-fn with_record(n: usize, numbers: [u8; EACH], owner: u8, row: usize) -> Listing
-    ensures { λ r. ⌜ r ≡ longer numbers n owner row ⌝ }
+fn with_record(n: usize, numbers: [u8; EACH], row: usize) -> Listing
+    ensures { λ r. ⌜ r ≡ longer numbers n row ⌝ }
 {
     if EACH <= n {
         return misfit(numbers);
@@ -71,11 +71,12 @@ fn with_record(n: usize, numbers: [u8; EACH], owner: u8, row: usize) -> Listing
     }
     let mut listed = numbers;
     listed[n] = row as u8;
+    let used = true;
     let count = (n + 1) as u8;
     Listing {
         fits: true,
         row,
-        owner,
+        used,
         count,
         numbers: listed,
     }
@@ -91,20 +92,20 @@ fn without_record(n: usize, numbers: [u8; EACH], j: usize) -> Listing
     }
     let row = wire::wide(numbers[j]);
     let left = closed_up(numbers, j);
-    let owner = 0u8;
+    let used = false;
     let count = (n - 1) as u8;
     Listing {
         fits: true,
         row,
-        owner,
+        used,
         count,
         numbers: left,
     }
 }
 
-// A door's list after a change: `free` is the lowest free row, `owner` the mark of a row that the door takes.
-pub fn list_after(position: Position, owner: u8, change: Change, free: usize) -> Listing
-    ensures { λ r. ⌜ (r ≡ listingOf position owner free change) × (length (position .rows) ≡ eachN) ⌝ }
+// A door's list after a change: `free` is the row for a record that is added.
+pub fn list_after(position: Position, change: Change, free: usize) -> Listing
+    ensures { λ r. ⌜ (r ≡ listingOf position free change) × (length (position .rows) ≡ eachN) ⌝ }
 {
     let n = count_of(position);
     let numbers = position.rows;
@@ -112,11 +113,11 @@ pub fn list_after(position: Position, owner: u8, change: Change, free: usize) ->
         Change::Keep => Listing {
             fits: true,
             row: ROWS,
-            owner: 0,
+            used: false,
             count: position.count,
             numbers,
         },
-        Change::Add => with_record(n, numbers, owner, free),
+        Change::Add => with_record(n, numbers, free),
         Change::Remove(j) => without_record(n, numbers, j),
     }
 }

@@ -1,17 +1,16 @@
 -- The ledger of a door: what the pool holds for it, what count tells, and that a record once taken comes back by a store alone.
 use mathlib.Core.Path.{_≡_, refl, sym, ap, ap₂, _∙_, subst}
-use mathlib.Core.Logic.{_↔_}
 use mathlib.Core.Bool.{Bool, true, false, cond}
 use mathlib.Core.Option.{none, some}
 use mathlib.Core.List.{List, [], _∷_, _++_}
 use Prim.Native.Nat.{ℕ, suc, _+_, _-_, _≤_, _<_}
 use native.Mathlib.Omega.{arith}
-use borrow.Author.Tests.{ltb-true, eq-eqb, eqb-true, eqb-false}
-use lib.Dec.{eqb, ltb}
+use borrow.Author.Tests.{eq-eqb, eqb-true, eqb-false}
+use lib.Dec.{eqb}
 use lib.ListN.{length, getD}
 use Rattle.eno.specs.Session.{inHand}
 use Rattle.eno.specs.declared.SessionRecord.{SessionRecord}
-use Rattle.door.specs.Door.{Seen, noSession}
+use Rattle.door.specs.Door.{Seen}
 use Rattle.door.specs.Record.{pastEnd, isSession}
 use Rattle.door.specs.Outcome.{holds, Outcome}
 use Rattle.door.specs.Records.{isHeld}
@@ -19,16 +18,14 @@ use Rattle.door.specs.Records as k
 use Rattle.door.specs.Calls.{Ask, count, outcome}
 use Rattle.door.specs.Calls as door
 use Rattle.unit.specs.Numbers.{doorsN}
-use Rattle.unit.specs.Unit.{emptyUnit, positionAt, mine, view}
-use Rattle.unit.specs.Run.{Call, on, erase, Told, carried, stepOn, step, after, Moment, moment, moments}
+use Rattle.unit.specs.Unit.{emptyUnit, view}
+use Rattle.unit.specs.Run.{Call, on, erase, Told, step, after, Moment, moment, moments}
 use Rattle.unit.specs.Invariant.{Inv, empty-inv}
-use Rattle.unit.specs.Isolation.{idleView, view-empty, inv-step, inv-after, its, effect-fits, step-is, told-own, told-at, view-at, view-off}
+use Rattle.unit.specs.Isolation.{idleView, view-empty, inv-step, inv-after, told-own, told-at, view-at, view-off}
 use Rattle.unit.specs.Resumption.{one, inHandThat, acceptedBy, stores, tally}
 use Rattle.unit.specs.Entries.{Entry, stored, forgotten, taken, entry, standing, storedIn, forgottenIn, takenIn}
-use Rattle.unit.specs.Laws.Lists.{In}
 use Rattle.unit.specs.Laws.Deeds.{entryOf, Deed, leaves, adds, forgets, takes, deed}
 use Rattle.unit.specs.Laws.Books.{Books, books-after, books-idle, grows-by-stores, none-tally, tally-first, session-self}
-use Rattle.unit.specs.Laws.Owned.{in-own, Owned, empty-owned, owned-enact}
 use Rattle.unit.specs.declared.LinkUnit.{LinkUnit}
 
 -- what a call of door d enters, by what was asked, the reply, and what is in hand then
@@ -88,32 +85,6 @@ books d h cs = books-run d h emptyUnit empty-inv [] (books-empty d h) cs
 -- the pool holds for a door exactly the records of its ledger, in its order
 pub pool-holds : (d : ℕ) → d < doorsN → (cs : List Call) → view (after emptyUnit cs) d .held ≡ ledger d cs
 pool-holds d h cs = books d h cs .holds
-
-owned-on : (b : Bool) (u : LinkUnit) (d : ℕ) (a : Ask) → ltb d doorsN ≡ b → Inv u → Owned u → Owned (step u (on d a) .unit)
-unfolding step stepOn carried
-owned-on true u d a q s m =
-    let h = ltb-true d doorsN q in
-    rw (step-is u d s h a) (owned-enact u d s h m (its u d s h a .effect) (its u d s h a .door) (effect-fits u d s h a))
-owned-on false u d a q s m = rw q m
-
-owned-run : (u : LinkUnit) → Inv u → Owned u → (cs : List Call) → Owned (after u cs)
-unfolding after step
-owned-run u s m [] = m
-owned-run u s m (erase ∷ cs) = owned-run emptyUnit empty-inv empty-owned cs
-owned-run u s m (on d a ∷ cs) = owned-run (step u (on d a) .unit) (inv-step u (on d a) s) (owned-on (ltb d doorsN) u d a refl s m) cs
-
--- in rows: the rows that a door owns are exactly those that it lists
-pub rows-owned : (d : ℕ) → d < doorsN → (cs : List Call) (i : ℕ) → (getD (after emptyUnit cs .owners) i 0 ≡ suc d) ↔ In i (mine (positionAt (after emptyUnit cs) d))
-rows-owned d h cs i =
-    (λ e. owned-run emptyUnit empty-inv empty-owned cs .listed d h i e, λ n. in-own (after emptyUnit cs .owners) d i (mine (positionAt (after emptyUnit cs) d)) (inv-after emptyUnit empty-inv cs .door d h .own) n)
-
--- and each row is nobody's or a door's
-pub no-stray-row : (cs : List Call) (i : ℕ) → getD (after emptyUnit cs .owners) i 0 ≤ doorsN
-no-stray-row cs i = owned-run emptyUnit empty-inv empty-owned cs .ours i
-
--- a free row is zeros: no record stays in the pool that no door holds
-pub free-row-is-zeros : (cs : List Call) (i : ℕ) → getD (after emptyUnit cs .owners) i 0 ≡ 0 → getD (after emptyUnit cs .rows) i noSession ≡ noSession
-free-row-is-zeros cs i e = owned-run emptyUnit empty-inv empty-owned cs .zeros i e
 
 -- what count tells: stores accepted, less forgets accepted, less takings, since the last erase
 pub record CountTells (d : ℕ) (cs : List Call) : Type 0 where

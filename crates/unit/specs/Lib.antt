@@ -1,10 +1,12 @@
 -- The unit: doors and pool, the calls, and the theorems over lists of calls.
 pub mod Numbers
+pub mod Marks
 pub mod Unit
 pub mod Run
 pub mod Laws
 pub mod Invariant
 pub mod Isolation
+pub mod Marked
 pub mod Refusals
 pub mod Resumption
 pub mod Entries

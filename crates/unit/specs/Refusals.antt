@@ -16,7 +16,7 @@ use Rattle.door.specs.Refusals.{AsFound, refusal-changes-nothing, refused-exact
 use Rattle.door.specs.Calls.{Ask, outcome}
 use Rattle.door.specs.declared.Door.{Door}
 use Rattle.unit.specs.Numbers.{doorsN}
-use Rattle.unit.specs.Unit.{emptyUnit, pastPosition, positionAt, view, isFree, ownersAfter, rowsAfter, positionAfter, enact}
+use Rattle.unit.specs.Unit.{emptyUnit, pastPosition, positionAt, view, isFree, marksAfter, rowsAfter, positionAfter, enact}
 use Rattle.unit.specs.Run.{Call, on, erase, Told, carried, stepOn, step, after}
 use Rattle.unit.specs.Invariant.{Inv, empty-inv}
 use Rattle.unit.specs.Isolation.{inv-after, told-own}
@@ -30,12 +30,12 @@ lent erase = []
 
 -- nothing kept, nothing changed
 pub keep-changes-nothing : (u : LinkUnit) (d : ℕ) (l : Door) → l ≡ positionAt u d .door → enact u d l keep ≡ u
-unfolding enact ownersAfter rowsAfter positionAfter
+unfolding enact marksAfter rowsAfter positionAfter
 keep-changes-nothing u d l e =
-    ap (λ (k : Door). after-keeping k) e ∙ ap (λ (doors : List Position). record { owners = u .owners; rows = u .rows; doors = doors }) (set-getD (u .doors) d pastPosition)
+    ap (λ (k : Door). after-keeping k) e ∙ ap (λ (doors : List Position). record { marks = u .marks; rows = u .rows; doors = doors }) (set-getD (u .doors) d pastPosition)
   where
     after-keeping : Door → LinkUnit
-    after-keeping k = record { owners = u .owners; rows = u .rows; doors = set (u .doors) d (record { door = k; count = positionAt u d .count; rows = positionAt u d .rows }) }
+    after-keeping k = record { marks = u .marks; rows = u .rows; doors = set (u .doors) d (record { door = k; count = positionAt u d .count; rows = positionAt u d .rows }) }
 
 -- a refused call leaves the unit as found, every field, for every unit value
 pub record LeftAsFound (u : LinkUnit) (c : Call) : Type 0 where

@@ -3,7 +3,7 @@ use Prim.Native.Nat.{ℕ, _-_}
 use mathlib.Core.Path.{_≡_, refl}
 use mathlib.Core.List.{List, [], _∷_, _++_, map}
 use mathlib.Core.Bool.{Bool, true, false}
-use lib.ListN.{take, replicate}
+use lib.ListN.{getD, take, replicate}
 use Rattle.eno.specs.Cause.{numbered, firstCause}
 use Rattle.wire.specs.Bytes.{part, pasted, sameBytes}
 use Rattle.eno.specs.Walk.{items, itemsOf}
@@ -28,8 +28,9 @@ use Rattle.door.specs.Records.{isHeld, isRecord}
 use Rattle.door.specs.Records as records-spec
 use Rattle.door.specs.Numbered.{lentOf}
 use Rattle.door.specs.Calls.{Ask, offer, answer, receive, resend, result, close, store, forget, count, outcome, cut, effected}
-use Rattle.unit.specs.Numbers.{doorsN, rowsN}
-use Rattle.unit.specs.Unit.{idlePosition, emptyUnit, positionAt, mine, recordsAt, orNext, firstFree, ownersAfter, rowsAfter, positionAfter, enact}
+use Rattle.unit.specs.Numbers.{doorsN, rowsN, wordN, wordsN}
+use Rattle.unit.specs.Marks.{bitsOf, marksIn, withBit, withMark}
+use Rattle.unit.specs.Unit.{idlePosition, emptyUnit, positionAt, mine, recordsAt, orNext, firstFree, marksAfter, rowsAfter, positionAfter, enact}
 use Rattle.unit.specs.Run.{Call, on, erase, carried, stepOn, step, after, moment, moments}
 use Rattle.unit.specs.Resumption.{acceptedBy, opens, stores}
 use Rattle.unit.specs.Entries.{stored, taken, entry, less, standing}
@@ -225,7 +226,7 @@ runs =
 
 -- each run's replies and the last call's buffer are the ones expected
 pub run-table : map (λ (r : Run). told r) runs ≡ runs
-unfolding runs storedOnce untilFreed untilTaken told repliesOf lastBuffer doorsN rowsN idlePosition emptyUnit recordsAt orNext firstFree ownersAfter rowsAfter positionAfter enact carried stepOn step lentOf outcome cut effected
+unfolding runs storedOnce untilFreed untilTaken told repliesOf lastBuffer doorsN rowsN wordN wordsN idlePosition emptyUnit recordsAt bitsOf marksIn withBit withMark orNext firstFree marksAfter rowsAfter positionAfter enact carried stepOn step lentOf outcome cut effected
     part pasted sameBytes items itemsOf optionAt options enos choose chosen finding partOf synOption suboptionAt suboptions isIllFormed
     globals globalByte roleBit awareBit teps isKnown sentHalf expectedHalf inHand isFresh isBad isResumption halfOf matches named once ofA ofB wayOf wayOfBoth tepsOf validity lastValid agreed negotiate firstOf roleOf awareOf judge
     encode encodeAll optionWith globalOf globalPart freshPart resumptionPart without isListed freshTeps lastPart offered answered knownOnce isTepList eachN phaseOf kept ownOption peerOption transcriptOf noSession emptyHand handOf
@@ -246,7 +247,7 @@ pub opened-once :
     × (entries 3 storedOnce ≡ taken sessionR ∷ stored sessionR ∷ [])
     × (ledger 3 (take 2 storedOnce) ≡ sessionR ∷ [])
     × (ledger 3 storedOnce ≡ [])
-unfolding storedOnce entered entriesAfter entriesFrom entries entry less standing opens stores acceptedBy moments moment doorsN rowsN idlePosition emptyUnit recordsAt orNext firstFree ownersAfter rowsAfter positionAfter enact carried stepOn step outcome cut effected
+unfolding storedOnce entered entriesAfter entriesFrom entries entry less standing opens stores acceptedBy moments moment doorsN rowsN wordN wordsN idlePosition emptyUnit recordsAt bitsOf marksIn withBit withMark orNext firstFree marksAfter rowsAfter positionAfter enact carried stepOn step outcome cut effected
     part pasted sameBytes items itemsOf optionAt options enos choose chosen finding partOf synOption suboptionAt suboptions isIllFormed
     globals globalByte roleBit awareBit teps isKnown sentHalf expectedHalf inHand isFresh isBad isResumption halfOf matches named once ofA ofB wayOf wayOfBoth tepsOf validity lastValid agreed negotiate firstOf roleOf awareOf judge
     encode encodeAll optionWith globalOf globalPart freshPart resumptionPart without isListed freshTeps lastPart offered answered knownOnce isTepList eachN phaseOf kept ownOption peerOption transcriptOf noSession emptyHand handOf
@@ -261,7 +262,7 @@ pub seen-twice :
     × (ledgerSeen 3 (exchanges (take 1 resumedTwice)) ≡ sessionR ∷ [])
     × (ledgerSeen 3 (exchanges (take 2 resumedTwice)) ≡ [])
     × (ledgerSeen 3 (exchanges (take 7 resumedTwice)) ≡ sessionR ∷ [])
-unfolding resumedTwice exchangesFrom exchanges hasSaid resumedSeen storesSeen resumptionIn sentFor halfFor lessResumed recordsAfter ledgerSeen acceptedBy less doorsN rowsN idlePosition emptyUnit recordsAt orNext firstFree ownersAfter rowsAfter positionAfter enact carried stepOn step outcome cut effected
+unfolding resumedTwice exchangesFrom exchanges hasSaid resumedSeen storesSeen resumptionIn sentFor halfFor lessResumed recordsAfter ledgerSeen acceptedBy less doorsN rowsN wordN wordsN idlePosition emptyUnit recordsAt bitsOf marksIn withBit withMark orNext firstFree marksAfter rowsAfter positionAfter enact carried stepOn step outcome cut effected
     part pasted sameBytes items itemsOf optionAt options enos choose chosen finding partOf synOption suboptionAt suboptions isIllFormed
     globals globalByte roleBit awareBit teps isKnown sentHalf expectedHalf inHand isFresh isBad isResumption halfOf matches named once ofA ofB wayOf wayOfBoth tepsOf validity lastValid agreed negotiate firstOf roleOf awareOf judge
     encode encodeAll optionWith globalOf globalPart freshPart resumptionPart without isListed freshTeps lastPart offered answered knownOnce isTepList eachN phaseOf kept ownOption peerOption transcriptOf noSession emptyHand handOf
@@ -269,13 +270,13 @@ unfolding resumedTwice exchangesFrom exchanges hasSaid resumedSeen storesSeen re
     turn openDoor judgedDoor secondReason presenceReason received secretOf receive-spec.receive receive-spec.resend receive-spec.result receive-spec.close isHeld isRecord records-spec.store records-spec.forget records-spec.count
 seen-twice = (refl, refl, refl, refl, refl)
 
--- the row that door 5 lists first, and the owners of rows 0, 1 and 2 before and after door 0 takes it: 0 is nobody, d + 1 door d
+-- the row that door 5 lists first, and the first word of marks before and after door 0 takes it: row 0 is its lowest bit
 pub freed-row :
     (mine (positionAt (after emptyUnit (take 2 untilFreed)) 5) ≡ 0 ∷ [])
-    × (take 3 (after emptyUnit (take 2 untilFreed) .owners) ≡ 6 ∷ 8 ∷ 0 ∷ [])
-    × (take 3 (after emptyUnit untilFreed .owners) ≡ 0 ∷ 8 ∷ 0 ∷ [])
+    × (getD (after emptyUnit (take 2 untilFreed) .marks) 0 0 ≡ 3)
+    × (getD (after emptyUnit untilFreed .marks) 0 0 ≡ 2)
     × (mine (positionAt (after emptyUnit untilTaken) 0) ≡ 0 ∷ [])
-    × (take 3 (after emptyUnit untilTaken .owners) ≡ 1 ∷ 8 ∷ 0 ∷ [])
-unfolding untilFreed untilTaken after doorsN rowsN idlePosition emptyUnit recordsAt orNext firstFree ownersAfter rowsAfter positionAfter enact carried stepOn step outcome cut effected
+    × (getD (after emptyUnit untilTaken .marks) 0 0 ≡ 3)
+unfolding untilFreed untilTaken after doorsN rowsN wordN wordsN idlePosition emptyUnit recordsAt bitsOf marksIn withBit withMark orNext firstFree marksAfter rowsAfter positionAfter enact carried stepOn step outcome cut effected
     sameBytes isKnown inHand eachN noSession emptyHand idleDoor firstThat isSession refusal firstCause unless isHeld isRecord records-spec.store records-spec.forget
 freed-row = (refl, refl, refl, refl, refl)

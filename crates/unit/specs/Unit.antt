@@ -2,7 +2,7 @@
 use Prim.Native.Nat.{ℕ, zero, suc, _+_, _-_, min}
 use mathlib.Core.Bool.{Bool}
 use mathlib.Core.List.{List, [], _∷_, _++_, map}
-use lib.ListN.{length, getD, take, set, replicate}
+use lib.ListN.{getD, take, set, replicate}
 use lib.Dec.{ltb}
 use Rattle.eno.specs.declared.SessionRecord.{SessionRecord}
 use Rattle.door.specs.Numbers.{eachN}
@@ -10,7 +10,8 @@ use Rattle.door.specs.Door.{Seen, noSession, idleDoor}
 use Rattle.door.specs.Outcome.{Effect, keep, add, remove}
 use Rattle.door.specs.Calls.{cut}
 use Rattle.door.specs.declared.Door.{Door}
-use Rattle.unit.specs.Numbers.{doorsN, rowsN}
+use Rattle.unit.specs.Numbers.{doorsN, rowsN, wordsN}
+use Rattle.unit.specs.Marks.{marksIn, withMark}
 use Rattle.unit.specs.declared.Position.{Position}
 use Rattle.unit.specs.declared.LinkUnit.{LinkUnit}
 
@@ -19,7 +20,7 @@ unfoldable pub idlePosition : Position
 idlePosition = record { door = idleDoor; count = 0; rows = replicate eachN 0 }
 
 unfoldable pub emptyUnit : LinkUnit
-emptyUnit = record { owners = replicate rowsN 0; rows = replicate rowsN noSession; doors = replicate doorsN idlePosition }
+emptyUnit = record { marks = replicate wordsN 0; rows = replicate rowsN noSession; doors = replicate doorsN idlePosition }
 
 -- past the last door an idle one stands
 abbrev pub pastPosition : Position
@@ -44,40 +45,43 @@ recordsAt rows is = map (λ i. getD rows i noSession) is
 abbrev pub view : LinkUnit → ℕ → Seen
 view u d = record { door = positionAt u d .door; held = recordsAt (u .rows) (mine (positionAt u d)) }
 
--- the lowest free row; the number of rows if there is none
+-- of a list of marks the lowest free row, whose mark is 0; the number of rows if there is none
 unfoldable pub orNext : ℕ → ℕ → ℕ
 orNext zero n = zero
-orNext (suc owner) n = suc n
+orNext (suc mark) n = suc n
 
 unfoldable pub firstFree : List ℕ → ℕ
 firstFree [] = zero
-firstFree (o ∷ owners) = orNext o (firstFree owners)
+firstFree (m ∷ marks) = orNext m (firstFree marks)
+
+abbrev pub lowestFree : LinkUnit → ℕ
+lowestFree u = firstFree (marksIn (u .marks))
 
 -- whether a row is free
 abbrev pub isFree : LinkUnit → Bool
-isFree u = ltb (firstFree (u .owners)) (length (u .owners))
+isFree u = ltb (lowestFree u) rowsN
 
--- a call's effect on owners, rows and the door's list: the row taken is the lowest free one, a freed row is zeros
-unfoldable pub ownersAfter : List ℕ → ℕ → Position → Effect → List ℕ
-ownersAfter owners d x keep = owners
-ownersAfter owners d x (add r) = set owners (firstFree owners) (suc d)
-ownersAfter owners d x (remove j) = set owners (getD (mine x) j 0) 0
+-- a call's effect on marks, rows and the door's list: a record is added in row free, and its mark set; a freed row is zeros, and its mark cleared
+unfoldable pub marksAfter : ℕ → List ℕ → Position → Effect → List ℕ
+marksAfter free words x keep = words
+marksAfter free words x (add r) = withMark words free 1
+marksAfter free words x (remove j) = withMark words (getD (mine x) j 0) 0
 
-unfoldable pub rowsAfter : List ℕ → List SessionRecord → Position → Effect → List SessionRecord
-rowsAfter owners rows x keep = rows
-rowsAfter owners rows x (add r) = set rows (firstFree owners) r
-rowsAfter owners rows x (remove j) = set rows (getD (mine x) j 0) noSession
+unfoldable pub rowsAfter : ℕ → List SessionRecord → Position → Effect → List SessionRecord
+rowsAfter free rows x keep = rows
+rowsAfter free rows x (add r) = set rows free r
+rowsAfter free rows x (remove j) = set rows (getD (mine x) j 0) noSession
 
-unfoldable pub positionAfter : List ℕ → Position → Door → Effect → Position
-positionAfter owners x d keep = record { door = d; count = x .count; rows = x .rows }
-positionAfter owners x d (add r) = record { door = d; count = suc (countOf x); rows = set (x .rows) (countOf x) (firstFree owners) }
-positionAfter owners x d (remove j) = record { door = d; count = countOf x - 1; rows = cut j (x .rows) ++ 0 ∷ [] }
+unfoldable pub positionAfter : ℕ → Position → Door → Effect → Position
+positionAfter free x d keep = record { door = d; count = x .count; rows = x .rows }
+positionAfter free x d (add r) = record { door = d; count = suc (countOf x); rows = set (x .rows) (countOf x) free }
+positionAfter free x d (remove j) = record { door = d; count = countOf x - 1; rows = cut j (x .rows) ++ 0 ∷ [] }
 
--- the unit after an effect of door d, which leaves the door's own data at l
+-- the unit after an effect of door d, which leaves the door's own data at l: the row taken is the lowest free one
 unfoldable pub enact : LinkUnit → ℕ → Door → Effect → LinkUnit
 enact u d l e =
     record {
-      owners = ownersAfter (u .owners) d (positionAt u d) e;
-      rows = rowsAfter (u .owners) (u .rows) (positionAt u d) e;
-      doors = set (u .doors) d (positionAfter (u .owners) (positionAt u d) l e);
+      marks = marksAfter (lowestFree u) (u .marks) (positionAt u d) e;
+      rows = rowsAfter (lowestFree u) (u .rows) (positionAt u d) e;
+      doors = set (u .doors) d (positionAfter (lowestFree u) (positionAt u d) l e);
     }

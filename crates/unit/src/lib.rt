@@ -7,6 +7,9 @@ pub const DOORS: usize = 24;
 
 pub const ROWS: usize = 96;
 
+// Words of marks, one bit for each row.
+pub const WORDS: usize = ROWS / 32;
+
 // A door in the unit: its own data, and the numbers of the rows that it holds, oldest first.
 #[repr(C)]
 pub struct Position {
@@ -15,10 +18,10 @@ pub struct Position {
     pub rows: [u8; EACH],
 }
 
-// Each row of the pool has an owner: 0 where it is free, d + 1 where it is door d's.
+// Each row of the pool has a mark: bit i % 32, from the lowest, of word i / 32 is row i's, and is set where the row is in use.
 #[repr(C)]
 pub struct LinkUnit {
-    pub owners: [u8; ROWS],
+    pub marks: [u32; WORDS],
     pub rows: [SessionRecord; ROWS],
     pub doors: [Position; DOORS],
 }

@@ -5,7 +5,7 @@ use mathlib.Core.List.{List, [], _∷_, _++_, map}
 use lib.ListN.{getD, take}
 use Rattle.wire.specs.Bytes.{bytesFrom}
 use Rattle.eno.specs.declared.SessionRecord.{SessionRecord}
-use Rattle.unit.specs.Numbers.{doorsN, rowsN}
+use Rattle.unit.specs.Numbers.{doorsN, rowsN, wordsN}
 use Rattle.unit.specs.declared.Position.{Position}
 use Rattle.unit.specs.declared.LinkUnit.{LinkUnit}
 use Rattle.unit_bytes.specs.Layout.{rowIdentifierAt, rowSecretAt, ownAt, peerAt, identifierAt, secretAt, mandatoryAt, resumedAt, heldAt, rowNumbersAt}
@@ -90,6 +90,6 @@ bytesOf o x = numbersOf o x ++ x .door .own ++ x .door .peer ++ x .door .hand .s
 abbrev pub rowsIn : List (List ℕ) → List SessionRecord
 rowsIn rows = map recordIn (take rowsN rows)
 
--- the unit that the owners, the bytes of the rows and the bytes of the doors are
+-- the unit that the words of marks, the bytes of the rows and the bytes of the doors are
 unfoldable pub unitIn : List ℕ → List (List ℕ) → List (List ℕ) → LinkUnit
-unitIn owners rows doors = record { owners = take rowsN owners; rows = rowsIn rows; doors = map positionIn (take doorsN doors) }
+unitIn marks rows doors = record { marks = take wordsN marks; rows = rowsIn rows; doors = map positionIn (take doorsN doors) }

@@ -1,5 +1,9 @@
--- The layout of a row's and a door's bytes: how many there are, and where each part begins. A change of layout changes these lines, Content, and the constants of src/lib.rt.
+-- The layout of a row's and a door's bytes: how many there are, and where each part begins; and the bytes of a word of marks. A change of layout changes these lines, Content, and the constants of src/lib.rt.
 use Prim.Native.Nat.{ℕ}
+
+-- a word of marks
+abbrev pub wordSize : ℕ
+wordSize = 4
 
 -- a row: TEP, role, identifier and secret of a record
 abbrev pub rowSize : ℕ

@@ -10,7 +10,7 @@ use lib.Seq.{take-all, ext-getD}
 use Rattle.wire.specs.Bytes.{bytesFrom, part}
 use Rattle.wire.specs.ByteLaws.{bytes-from-part}
 use Rattle.door.specs.Door.{noSession}
-use Rattle.unit.specs.Numbers.{doorsN, rowsN}
+use Rattle.unit.specs.Numbers.{doorsN, rowsN, wordsN}
 use Rattle.unit.specs.Unit.{idlePosition}
 use Rattle.unit.specs.declared.Position.{Position}
 use Rattle.unit.specs.declared.LinkUnit.{LinkUnit}
@@ -151,8 +151,8 @@ pub door-tells : (a b : List ℕ) → length a ≡ doorSize → length b ≡ doo
 door-tells a b m n s t e = sym (place-written a s m) ∙ (ap (bytesOf []) e ∙ place-written b t n)
 
 -- arrays of the unit's sizes
-pub record Sized (owners : List ℕ) (rows doors : List (List ℕ)) : Type 0 where
-  pub all-owners : length owners ≡ rowsN
+pub record Sized (marks : List ℕ) (rows doors : List (List ℕ)) : Type 0 where
+  pub all-marks : length marks ≡ wordsN
   pub all-rows : length rows ≡ rowsN
   pub all-doors : length doors ≡ doorsN
   pub row-bytes : (i : ℕ) → i < rowsN → length (getD rows i []) ≡ rowSize
@@ -167,30 +167,30 @@ pub erased-tidy : AllTidy (replicate doorsN (replicate doorSize 0))
 erased-tidy = record { each = λ i h. subst Tidy (sym (getD-replicate doorsN i (replicate doorSize 0) [] h)) zeros-tidy }
 
 -- every byte is the same
-pub record Same (owners owners′ : List ℕ) (rows rows′ doors doors′ : List (List ℕ)) : Type 0 where
-  pub owners-same : owners ≡ owners′
+pub record Same (marks marks′ : List ℕ) (rows rows′ doors doors′ : List (List ℕ)) : Type 0 where
+  pub marks-same : marks ≡ marks′
   pub rows-same : rows ≡ rows′
   pub doors-same : doors ≡ doors′
 
-pub owners-in : (owners : List ℕ) (rows doors : List (List ℕ)) → length owners ≡ rowsN → unitIn owners rows doors .owners ≡ owners
+pub marks-in : (marks : List ℕ) (rows doors : List (List ℕ)) → length marks ≡ wordsN → unitIn marks rows doors .marks ≡ marks
 unfolding unitIn
-owners-in owners rows doors e = take-all rowsN owners (omega arith)
+marks-in marks rows doors e = take-all wordsN marks (omega arith)
 
-pub unit-tells : (owners owners′ : List ℕ) (rows rows′ doors doors′ : List (List ℕ)) → Sized owners rows doors → Sized owners′ rows′ doors′ → AllTidy doors → AllTidy doors′
-    → unitIn owners rows doors ≡ unitIn owners′ rows′ doors′ → Same owners owners′ rows rows′ doors doors′
-unit-tells owners owners′ rows rows′ doors doors′ s t p q e =
+pub unit-tells : (marks marks′ : List ℕ) (rows rows′ doors doors′ : List (List ℕ)) → Sized marks rows doors → Sized marks′ rows′ doors′ → AllTidy doors → AllTidy doors′
+    → unitIn marks rows doors ≡ unitIn marks′ rows′ doors′ → Same marks marks′ rows rows′ doors doors′
+unit-tells marks marks′ rows rows′ doors doors′ s t p q e =
     record {
-      owners-same = sym (owners-in owners rows doors (s .all-owners)) ∙ (ap (λ (u : LinkUnit). u .owners) e ∙ owners-in owners′ rows′ doors′ (t .all-owners));
+      marks-same = sym (marks-in marks rows doors (s .all-marks)) ∙ (ap (λ (u : LinkUnit). u .marks) e ∙ marks-in marks′ rows′ doors′ (t .all-marks));
       rows-same =
           ext-getD [] rows rows′ (s .all-rows ∙ sym (t .all-rows))
           (λ i h.
           let k : i < rowsN = omega (arith, s .all-rows) in
           row-tells (getD rows i []) (getD rows′ i []) (s .row-bytes i k) (t .row-bytes i k)
-          (sym (row-in owners rows doors i k) ∙ (ap (λ (u : LinkUnit). getD (u .rows) i noSession) e ∙ row-in owners′ rows′ doors′ i k)));
+          (sym (row-in marks rows doors i k) ∙ (ap (λ (u : LinkUnit). getD (u .rows) i noSession) e ∙ row-in marks′ rows′ doors′ i k)));
       doors-same =
           ext-getD [] doors doors′ (s .all-doors ∙ sym (t .all-doors))
           (λ i h.
           let k : i < doorsN = omega (arith, s .all-doors) in
           door-tells (getD doors i []) (getD doors′ i []) (s .door-bytes i k) (t .door-bytes i k) (p .each i k) (q .each i k)
-          (sym (door-in owners rows doors i k) ∙ (ap (λ (u : LinkUnit). getD (u .doors) i idlePosition) e ∙ door-in owners′ rows′ doors′ i k)));
+          (sym (door-in marks rows doors i k) ∙ (ap (λ (u : LinkUnit). getD (u .doors) i idlePosition) e ∙ door-in marks′ rows′ doors′ i k)));
     }

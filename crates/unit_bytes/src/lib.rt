@@ -5,6 +5,9 @@ ghost use lib.ListN.{length};
 ghost use mathlib.Core.List.{_++_};
 ghost use Rattle.unit_bytes.specs.Content.{recordIn, rowOf};
 
+// The bytes of a word of marks.
+pub const WORD: usize = 4;
+
 // The bytes of a row: TEP, role, identifier and secret of a record, and where the last two begin.
 pub const ROW: usize = 52;
 

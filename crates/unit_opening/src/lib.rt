@@ -3,6 +3,7 @@ use door::Refusal;
 use door::Reply;
 use unit::DOORS;
 use unit::ROWS;
+use unit::WORDS;
 use unit_bytes::PLACE;
 use unit_bytes::ROW;
 ghost use mathlib.Core.Path.{_≡_};
@@ -14,7 +15,7 @@ ghost use Rattle.unit_step.specs.Steps.{stepOf};
 
 // An active open, or one that may cross: writes this end's option.
 pub fn offer(
-    owners: &mut [u8; ROWS],
+    marks: &mut [u32; WORDS],
     rows: &mut [[u8; ROW]; ROWS],
     doors: &mut [[u8; PLACE]; DOORS],
     door: usize,
@@ -26,7 +27,7 @@ pub fn offer(
     nonce: &[u8],
     out: &mut [u8],
 ) -> Reply
-    ensures { λ r. ⌜ (stepOf r (now (out .exit)) (unitIn (now (owners .exit)) (now (rows .exit)) (now (doors .exit))) ≡ step (unitIn (now (owners .entry)) (now (rows .entry)) (now (doors .entry))) (on door (offer b aware mandatory (now (teps .entry)) resume (now (nonce .entry)) (now (out .entry))))) × DoorsKept door (now (doors .entry)) (now (doors .exit)) ⌝ }
+    ensures { λ r. ⌜ (stepOf r (now (out .exit)) (unitIn (now (marks .exit)) (now (rows .exit)) (now (doors .exit))) ≡ step (unitIn (now (marks .entry)) (now (rows .entry)) (now (doors .entry))) (on door (offer b aware mandatory (now (teps .entry)) resume (now (nonce .entry)) (now (out .entry))))) × DoorsKept door (now (doors .entry)) (now (doors .exit)) ⌝ }
 {
     if DOORS <= door {
         return Reply::Refused(Refusal::NoDoor);
@@ -38,7 +39,7 @@ pub fn offer(
     let change = told.change;
     let after = told.door;
     pool::enacted(
-        owners,
+        marks,
         rows,
         doors,
         door,
@@ -53,7 +54,7 @@ pub fn offer(
 
 // A passive open: takes the area of a received SYN and writes this end's option, or ends in plain TCP.
 pub fn answer(
-    owners: &mut [u8; ROWS],
+    marks: &mut [u32; WORDS],
     rows: &mut [[u8; ROW]; ROWS],
     doors: &mut [[u8; PLACE]; DOORS],
     door: usize,
@@ -64,7 +65,7 @@ pub fn answer(
     nonce: &[u8],
     out: &mut [u8],
 ) -> Reply
-    ensures { λ r. ⌜ (stepOf r (now (out .exit)) (unitIn (now (owners .exit)) (now (rows .exit)) (now (doors .exit))) ≡ step (unitIn (now (owners .entry)) (now (rows .entry)) (now (doors .entry))) (on door (answer (now (area .entry)) aware mandatory (now (teps .entry)) (now (nonce .entry)) (now (out .entry))))) × DoorsKept door (now (doors .entry)) (now (doors .exit)) ⌝ }
+    ensures { λ r. ⌜ (stepOf r (now (out .exit)) (unitIn (now (marks .exit)) (now (rows .exit)) (now (doors .exit))) ≡ step (unitIn (now (marks .entry)) (now (rows .entry)) (now (doors .entry))) (on door (answer (now (area .entry)) aware mandatory (now (teps .entry)) (now (nonce .entry)) (now (out .entry))))) × DoorsKept door (now (doors .entry)) (now (doors .exit)) ⌝ }
 {
     if DOORS <= door {
         return Reply::Refused(Refusal::NoDoor);
@@ -76,7 +77,7 @@ pub fn answer(
     let change = told.change;
     let after = told.door;
     pool::enacted(
-        owners,
+        marks,
         rows,
         doors,
         door,

@@ -3,6 +3,7 @@ use door::Refusal;
 use door::Reply;
 use unit::DOORS;
 use unit::ROWS;
+use unit::WORDS;
 use unit_bytes::PLACE;
 use unit_bytes::ROW;
 ghost use mathlib.Core.Path.{_≡_};
@@ -15,7 +16,7 @@ ghost use Rattle.unit_step.specs.Steps.{stepOf};
 
 // Adds a session record to a door.
 pub fn store(
-    owners: &mut [u8; ROWS],
+    marks: &mut [u32; WORDS],
     rows: &mut [[u8; ROW]; ROWS],
     doors: &mut [[u8; PLACE]; DOORS],
     door: usize,
@@ -24,22 +25,22 @@ pub fn store(
     identifier: &[u8],
     secret: &[u8],
 ) -> Reply
-    ensures { λ r. ⌜ (stepOf r [] (unitIn (now (owners .exit)) (now (rows .exit)) (now (doors .exit))) ≡ step (unitIn (now (owners .entry)) (now (rows .entry)) (now (doors .entry))) (on door (store tep role (now (identifier .entry)) (now (secret .entry))))) × DoorsKept door (now (doors .entry)) (now (doors .exit)) ⌝ }
+    ensures { λ r. ⌜ (stepOf r [] (unitIn (now (marks .exit)) (now (rows .exit)) (now (doors .exit))) ≡ step (unitIn (now (marks .entry)) (now (rows .entry)) (now (doors .entry))) (on door (store tep role (now (identifier .entry)) (now (secret .entry))))) × DoorsKept door (now (doors .entry)) (now (doors .exit)) ⌝ }
 {
     if DOORS <= door {
         return Reply::Refused(Refusal::NoDoor);
     }
     let position = pool::position_at(doors, door);
     let view = pool::view_of(rows, position);
-    let all = *owners;
-    let row = pool::lowest_free(all);
+    let words = *marks;
+    let row = marks::lowest_unmarked(words);
     let free = row < ROWS;
     let told = records::store(view, free, tep, role, identifier, secret);
     let before = view.door;
     let change = told.change;
     let added = told.added;
     pool::enacted(
-        owners,
+        marks,
         rows,
         doors,
         door,
@@ -54,14 +55,14 @@ pub fn store(
 
 // Removes the session record with this TEP and identifier from a door.
 pub fn forget(
-    owners: &mut [u8; ROWS],
+    marks: &mut [u32; WORDS],
     rows: &mut [[u8; ROW]; ROWS],
     doors: &mut [[u8; PLACE]; DOORS],
     door: usize,
     tep: u8,
     identifier: &[u8],
 ) -> Reply
-    ensures { λ r. ⌜ (stepOf r [] (unitIn (now (owners .exit)) (now (rows .exit)) (now (doors .exit))) ≡ step (unitIn (now (owners .entry)) (now (rows .entry)) (now (doors .entry))) (on door (forget tep (now (identifier .entry))))) × DoorsKept door (now (doors .entry)) (now (doors .exit)) ⌝ }
+    ensures { λ r. ⌜ (stepOf r [] (unitIn (now (marks .exit)) (now (rows .exit)) (now (doors .exit))) ≡ step (unitIn (now (marks .entry)) (now (rows .entry)) (now (doors .entry))) (on door (forget tep (now (identifier .entry))))) × DoorsKept door (now (doors .entry)) (now (doors .exit)) ⌝ }
 {
     if DOORS <= door {
         return Reply::Refused(Refusal::NoDoor);
@@ -73,7 +74,7 @@ pub fn forget(
     let change = told.change;
     let zeros = door::no_session();
     pool::enacted(
-        owners,
+        marks,
         rows,
         doors,
         door,
@@ -88,12 +89,12 @@ pub fn forget(
 
 // How many session records a door holds.
 pub fn count(
-    owners: &[u8; ROWS],
+    marks: &[u32; WORDS],
     rows: &[[u8; ROW]; ROWS],
     doors: &[[u8; PLACE]; DOORS],
     door: usize,
 ) -> Reply
-    ensures { λ r. ⌜ stepOf r [] (unitIn (now (owners .entry)) (now (rows .entry)) (now (doors .entry))) ≡ step (unitIn (now (owners .entry)) (now (rows .entry)) (now (doors .entry))) (on door (count)) ⌝ }
+    ensures { λ r. ⌜ stepOf r [] (unitIn (now (marks .entry)) (now (rows .entry)) (now (doors .entry))) ≡ step (unitIn (now (marks .entry)) (now (rows .entry)) (now (doors .entry))) (on door (count)) ⌝ }
 {
     if DOORS <= door {
         return Reply::Refused(Refusal::NoDoor);

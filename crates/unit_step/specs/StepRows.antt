@@ -16,26 +16,27 @@ use Rattle.door.specs.Records as k
 use Rattle.door.specs.Calls.{Ask, resend, result, count, outcome}
 use Rattle.door.specs.declared.Door.{Door}
 use Rattle.unit.specs.Numbers.{doorsN, rowsN}
-use Rattle.unit.specs.Unit.{positionAt, mine, recordsAt, view, firstFree, isFree, ownersAfter, rowsAfter, enact}
+use Rattle.unit.specs.Unit.{positionAt, mine, recordsAt, view, lowestFree, isFree, marksAfter, rowsAfter, enact}
 use Rattle.unit.specs.Run.{on, Step, carried, step}
+use Rattle.unit.specs.Marks.{marksIn}
+use Rattle.unit.specs.Marked.{markOf, takes-lowest, frees-its-row}
 use Rattle.unit.specs.Laws.Lists.{In}
-use Rattle.unit.specs.Laws.Pool.{free-owner}
 use Rattle.unit.specs.Laws.Calls.{Fits, outcome-fits, unless-law}
 use Rattle.unit.specs.Refusals.{keep-changes-nothing}
 use Rattle.unit.specs.declared.LinkUnit.{LinkUnit}
 use Rattle.unit_step.specs.Stepping.{step-past, step-is}
 
--- the row k that a call of door d takes or frees: no row at all, the lowest free one, which is nobody's, or one that the door's own list names
+-- the row k that a call of door d takes or frees: no row at all, the lowest free one, which is not marked, or one that the door's own list names
 pub data OneRow (u : LinkUnit) (d k : ℕ) : Type 0 where
   none : rowsN ≤ k → OneRow u d k
-  taken : k ≡ firstFree (u .owners) → getD (u .owners) k 0 ≡ 0 → OneRow u d k
+  taken : k ≡ lowestFree u → markOf u k ≡ 0 → OneRow u d k
   freed : d < doorsN → In k (mine (positionAt u d)) → OneRow u d k
 
--- every other row, and its owner, is as it was
+-- every other row, and its mark, is as it was
 pub record RowsStay (u after : LinkUnit) (d : ℕ) : Type 0 where
   pub row : ℕ
   pub which : OneRow u d row
-  pub owners-stay : (i : ℕ) → i ≢ row → getD (after .owners) i 0 ≡ getD (u .owners) i 0
+  pub marks-stay : (i : ℕ) → i ≢ row → markOf after i ≡ markOf u i
   pub rows-stay : (i : ℕ) → i ≢ row → getD (after .rows) i noSession ≡ getD (u .rows) i noSession
 
 in-at : (j : ℕ) (is : List ℕ) → j < length is → In (getD is j 0) is
@@ -44,7 +45,7 @@ in-at zero (i ∷ is) h = inl refl
 in-at (suc j) (i ∷ is) h = inr (in-at j is (omega arith))
 
 unit-stays : (u : LinkUnit) (d : ℕ) → RowsStay u u d
-unit-stays u d = record { row = rowsN; which = none (omega arith); owners-stay = λ i n. refl; rows-stay = λ i n. refl }
+unit-stays u d = record { row = rowsN; which = none (omega arith); marks-stay = λ i n. refl; rows-stay = λ i n. refl }
 
 module _ (u : LinkUnit) (d : ℕ) (ours : d < doorsN) where
   listed : (j : ℕ) → j < length (view u d .held) → j < length (mine (positionAt u d))
@@ -52,20 +53,20 @@ module _ (u : LinkUnit) (d : ℕ) (ours : d < doorsN) where
   listed j h = subst (λ (n : ℕ). j < n) (length-map (mine (positionAt u d)) _) h
 
   enact-rows : (l : Door) (e : Effect) → Fits (isFree u) (view u d) e → RowsStay u (enact u d l e) d
-  unfolding enact ownersAfter rowsAfter
-  enact-rows l keep f = record { row = rowsN; which = none (omega arith); owners-stay = λ i n. refl; rows-stay = λ i n. refl }
+  unfolding enact marksAfter rowsAfter
+  enact-rows l keep f = record { row = rowsN; which = none (omega arith); marks-stay = λ i n. refl; rows-stay = λ i n. refl }
   enact-rows l (add r) f =
       record {
-        row = firstFree (u .owners);
-        which = taken refl (free-owner (u .owners) (ltb-true _ _ (f .1)));
-        owners-stay = λ i n. getD-set-other (u .owners) (firstFree (u .owners)) i (suc d) 0 n;
-        rows-stay = λ i n. getD-set-other (u .rows) (firstFree (u .owners)) i r noSession n;
+        row = lowestFree u;
+        which = taken refl (takes-lowest u d l r .unmarked);
+        marks-stay = λ i n. ap (λ (ms : List ℕ). getD ms i 0) (takes-lowest u d l r .marked) ∙ getD-set-other (marksIn (u .marks)) (lowestFree u) i 1 0 n;
+        rows-stay = λ i n. getD-set-other (u .rows) (lowestFree u) i r noSession n;
       }
   enact-rows l (remove j) f =
       record {
         row = getD (mine (positionAt u d)) j 0;
         which = freed ours (in-at j (mine (positionAt u d)) (listed j f));
-        owners-stay = λ i n. getD-set-other (u .owners) (getD (mine (positionAt u d)) j 0) i 0 0 n;
+        marks-stay = λ i n. ap (λ (ms : List ℕ). getD ms i 0) (frees-its-row u d l j) ∙ getD-set-other (marksIn (u .marks)) (getD (mine (positionAt u d)) j 0) i 0 0 n;
         rows-stay = λ i n. getD-set-other (u .rows) (getD (mine (positionAt u d)) j 0) i noSession noSession n;
       }
 

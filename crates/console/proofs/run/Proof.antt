@@ -6,11 +6,11 @@ use Rattle.console.proofs.run.Statement.{statement}
 use Rattle.console.proofs.run.Tie as tie
 
 abbrev Inv-loop : tie.InvT-loop
-Inv-loop owners₀ rows₀ doors₀ record₀ chunk₀ line₀ place₀ number₀ turns₀ owners rows doors «record» chunk line place number turns =
+Inv-loop marks₀ rows₀ doors₀ record₀ chunk₀ line₀ place₀ number₀ turns₀ marks rows doors «record» chunk line place number turns =
     (length chunk ≡ 65536) × (length line ≡ 20001)
 
 abbrev μ-loop : tie.MeasureT-loop
-μ-loop owners₀ rows₀ doors₀ record₀ chunk₀ line₀ place₀ number₀ turns₀ owners rows doors «record» chunk line place number turns =
+μ-loop marks₀ rows₀ doors₀ record₀ chunk₀ line₀ place₀ number₀ turns₀ marks rows doors «record» chunk line place number turns =
     turns
 
 erase-requires : tie.Need-erase-requires Inv-loop μ-loop

@@ -1,7 +1,6 @@
 -- `pool::enacted` meets its contract.
 use mathlib.Core.Path.{refl}
 use native.Mathlib.Omega.{arith}
-use Prim.Native.Nat.{_+_}
 use Rattle.unit.specs.Numbers.{doorsN}
 use Rattle.pool.specs.PlacedLaws.{enacts-past, enacts-fit, enacts-unfit}
 use borrow.Author.Needs.{needs}
@@ -16,13 +15,7 @@ use Rattle.row_list.proofs.session_after.Reads as session-after-reads
 
 returns : tie.Need-returns
 unfolding doorsN
-returns c = let a = c .before .args in enacts-past (a .owners .now) (a .rows .now) (a .doors .now) (a .d) (a .position) (a .free) (a .after) (a .change) (a .added) (omega arith)
-
-add-owner : tie.Need-add-owner
-add-owner c = search needs
-
-cast-owner : tie.Need-cast-owner
-cast-owner c = search needs
+returns c = let a = c .before .args in enacts-past (a .marks .now) (a .rows .now) (a .doors .now) (a .d) (a .position) (a .free) (a .after) (a .change) (a .added) (omega arith)
 
 list-after-requires : tie.Need-list-after-requires
 list-after-requires c κs = search needs
@@ -42,7 +35,7 @@ returns-2 c =
     let a = c .before .before .before .before .before .before .before .before .before .before .args in
     let n = c .before .before .before .before .before .before .before .before .list-after in
     let s = c .before .before .before .before .before .before .before .session-after in
-    enacts-fit (a .owners .now) _ (a .rows .now) _ (a .doors .now) _ (a .d) (a .position) (a .free) (a .after) (a .change) (a .added) (s .result) (n .result) (a .d + 1) (omega arith) (omega arith) (n .ensures .0) (s .ensures)
+    enacts-fit (a .marks .now) _ (a .rows .now) _ (a .doors .now) _ (a .d) (a .position) (a .free) (a .after) (a .change) (a .added) (s .result) (n .result) (omega arith) (n .ensures .0) (s .ensures)
     (n .ensures .1) (c .before .before .before .before .put-row .ensures) (c .before .before .before .if2 .taken) (c .put-door .ensures)
 
 returns-3 : tie.Need-returns-3
@@ -51,7 +44,7 @@ returns-3 c =
     let a = c .before .before .before .before .before .before .before .args in
     let n = c .before .before .before .before .before .list-after in
     let s = c .before .before .before .before .session-after in
-    enacts-unfit (a .owners .now) _ (a .rows .now) _ (a .doors .now) _ (a .d) (a .position) (a .free) (a .after) (a .change) (a .added) (s .result) (n .result) (a .d + 1) (omega arith) (omega arith) (n .ensures .0) (s .ensures)
+    enacts-unfit (a .marks .now) _ (a .rows .now) _ (a .doors .now) _ (a .d) (a .position) (a .free) (a .after) (a .change) (a .added) (s .result) (n .result) (omega arith) (n .ensures .0) (s .ensures)
     (n .ensures .1) (c .before .put-row .ensures) (c .if2 .left) refl
 
 pub enacted-spec : {M : Type 1} → statement M
@@ -59,8 +52,6 @@ enacted-spec =
     tie.close
     (tie.spec
     returns
-    add-owner
-    cast-owner
     list-after-requires
     session-after-requires
     put-row-requires

@@ -31,13 +31,13 @@ without-record-requires c κs = search needs
 
 returns : tie.Need-returns
 unfolding rowsN
-returns c = (list-kept _ _ _ _ (c .enum-told .given .1), c .before .before .before .count-of .ensures .1)
+returns c = (list-kept _ _ _ (c .enum-told .given .1), c .before .before .before .count-of .ensures .1)
 
 returns-2 : tie.Need-returns-2
-returns-2 c = (list-longer _ _ _ _ _ _ (c .before .before .before .before .count-of .ensures .0) (c .before .enum-told2 .given .1) (c .with-record .ensures), c .before .before .before .before .count-of .ensures .1)
+returns-2 c = (list-longer _ _ _ _ _ (c .before .before .before .before .count-of .ensures .0) (c .before .enum-told2 .given .1) (c .with-record .ensures), c .before .before .before .before .count-of .ensures .1)
 
 returns-3 : tie.Need-returns-3
-returns-3 c = (list-shorter _ _ _ _ _ _ (c .before .before .before .before .before .count-of .ensures .0) _ (c .before .before .change .given .1) (c .without-record .ensures), c .before .before .before .before .before .count-of .ensures .1)
+returns-3 c = (list-shorter _ _ _ _ _ (c .before .before .before .before .before .count-of .ensures .0) _ (c .before .before .change .given .1) (c .without-record .ensures), c .before .before .before .before .before .count-of .ensures .1)
 
 pub list-after-spec : {M : Type 1} → statement M
 list-after-spec =

@@ -16,14 +16,14 @@ misfit-requires c κs = search needs
 
 returns : tie.Need-returns
 unfolding eachN rowsN
-returns c = c .misfit .ensures ∙ too-many _ _ _ _ (omega arith)
+returns c = c .misfit .ensures ∙ too-many _ _ _ (omega arith)
 
 misfit-requires-2 : tie.Need-misfit-requires-2
 misfit-requires-2 c κs = search needs
 
 returns-2 : tie.Need-returns-2
 unfolding eachN rowsN
-returns-2 c = c .misfit2 .ensures ∙ none-free _ _ _ _ (omega arith) (omega arith)
+returns-2 c = c .misfit2 .ensures ∙ none-free _ _ _ (omega arith) (omega arith)
 
 cast-listed : tie.Need-cast-listed
 cast-listed c = search needs
@@ -39,7 +39,7 @@ cast-count c = search needs
 
 returns-3 : tie.Need-returns-3
 unfolding eachN rowsN
-returns-3 c = one-more _ _ _ _ (omega arith) _ (omega arith) (omega arith)
+returns-3 c = one-more _ _ _ (omega arith) _ (omega arith) (omega arith)
 
 pub with-record-spec : {M : Type 1} → statement M
 with-record-spec =

@@ -112,18 +112,19 @@ unfolding orNext bit
 next-lt zero n m u f h = omega arith
 next-lt (suc o) n m u f h = omega (arith, f (omega arith))
 
--- fewer in use than there are: one is free, and the lowest free one is nobody's
+-- fewer in use than there are: one is free
 pub free-lt : (owners : List ℕ) → inUse owners < length owners → firstFree owners < length owners
 unfolding inUse firstFree
 free-lt [] h = h
 free-lt (o ∷ owners) h = next-lt o (firstFree owners) (length owners) (inUse owners) (free-lt owners) h
 
-next-owner : (o : ℕ) (owners : List ℕ) (n p : ℕ) → o ≡ p → (n < length owners → getD owners n 0 ≡ 0) → orNext p n < suc (length owners) → getD (o ∷ owners) (orNext p n) 0 ≡ 0
+-- the lowest free row is free, or past the last
+next-free : (o : ℕ) (owners : List ℕ) (n p : ℕ) → o ≡ p → getD owners n 0 ≡ 0 → getD (o ∷ owners) (orNext p n) 0 ≡ 0
 unfolding orNext
-next-owner o owners n zero e f h = e
-next-owner o owners n (suc p) e f h = f (omega arith)
+next-free o owners n zero e f = e
+next-free o owners n (suc p) e f = f
 
-pub free-owner : (owners : List ℕ) → firstFree owners < length owners → getD owners (firstFree owners) 0 ≡ 0
+pub lowest-is-free : (owners : List ℕ) → getD owners (firstFree owners) 0 ≡ 0
 unfolding firstFree
-free-owner [] h = absurd (omega arith)
-free-owner (o ∷ owners) h = next-owner o owners (firstFree owners) o refl (free-owner owners) h
+lowest-is-free [] = refl
+lowest-is-free (o ∷ owners) = next-free o owners (firstFree owners) o refl (lowest-is-free owners)

@@ -24,7 +24,7 @@ returns : tie.Need-returns
 unfolding doorsN lentOf
 returns c =
     let a = c .before .before .before .before .before .args in
-    (step-past (unitIn (a .owners .now) (a .rows .now) (a .doors .now)) (a .door) (answer (now (a .area)) (a .aware) (a .mandatory) (now (a .teps)) (now (a .nonce)) (a .out .now)) (omega arith), doors-same (a .door) (a .doors .now))
+    (step-past (unitIn (a .marks .now) (a .rows .now) (a .doors .now)) (a .door) (answer (now (a .area)) (a .aware) (a .mandatory) (now (a .teps)) (now (a .nonce)) (a .out .now)) (omega arith), doors-same (a .door) (a .doors .now))
 
 position-at-requires : tie.Need-position-at-requires
 position-at-requires c κs = search needs
@@ -48,7 +48,7 @@ returns-2 : tie.Need-returns-2
 unfolding doorsN rowsN outcome
 returns-2 c =
     let a = c .before .before .before .before .before .before .before .before .before .before .before .before .before .before .before .before .before .before .before .args in
-    (step-taken (a .owners .now) (a .rows .now) (a .doors .now) (a .door) (omega (arith, c .before .before .before .before .before .before .before .before .before .before .before .before .before .before .if1 .left)) _ (c .before .before .before .before .before .before .before .before .before .before .before .before .position-at .ensures) (answer (now (a .area)) (a .aware) (a .mandatory) (now (a .teps)) (now (a .nonce)) (a .out .now)) _ _ _ _ _ _ _ _ _ _ (c .before .before .before .before .before .no-session .ensures) (c .before .before .before .before .before .before .before .before .before .before .view-of .ensures .1) (c .before .before .before .before .before .before .before .before .answer .ensures) refl (c .enacted .ensures), enacts-kept _ _ _ _ _ _ _ _ _ _ _ _ (c .enacted .ensures))
+    (step-taken (a .marks .now) (a .rows .now) (a .doors .now) (a .door) (omega (arith, c .before .before .before .before .before .before .before .before .before .before .before .before .before .before .if1 .left)) _ (c .before .before .before .before .before .before .before .before .before .before .before .before .position-at .ensures) (answer (now (a .area)) (a .aware) (a .mandatory) (now (a .teps)) (now (a .nonce)) (a .out .now)) _ _ _ _ _ _ _ _ _ _ (c .before .before .before .before .before .no-session .ensures) (c .before .before .before .before .before .before .before .before .before .before .view-of .ensures .1) (c .before .before .before .before .before .before .before .before .answer .ensures) refl (c .enacted .ensures), enacts-kept _ _ _ _ _ _ _ _ _ _ _ _ (c .enacted .ensures))
 
 pub answer-spec : {M : Type 1} → statement M
 answer-spec =

@@ -22,7 +22,7 @@ returns : tie.Need-returns
 unfolding doorsN lentOf
 returns c =
     let a = c .before .args in
-    step-past (unitIn (now (a .owners)) (now (a .rows)) (now (a .doors))) (a .door) (count) (omega arith)
+    step-past (unitIn (now (a .marks)) (now (a .rows)) (now (a .doors))) (a .door) (count) (omega arith)
 
 position-at-requires : tie.Need-position-at-requires
 position-at-requires c κs = search needs
@@ -37,7 +37,7 @@ returns-2 : tie.Need-returns-2
 unfolding doorsN outcome seenOf
 returns-2 c =
     let a = c .before .before .before .before .args in
-    step-counted (now (a .owners)) (now (a .rows)) (now (a .doors)) (a .door) (omega arith) _ (c .before .before .position-at .ensures) count _ _ _ (c .before .view-of .ensures .1) (c .count .ensures)
+    step-counted (now (a .marks)) (now (a .rows)) (now (a .doors)) (a .door) (omega arith) _ (c .before .before .position-at .ensures) count _ _ _ (c .before .view-of .ensures .1) (c .count .ensures)
 
 pub count-spec : {M : Type 1} → statement M
 count-spec =

@@ -21,7 +21,7 @@ returns : tie.Need-returns
 unfolding doorsN lentOf
 returns c =
     let a = c .before .args in
-    (step-past (unitIn (now (a .owners)) (now (a .rows)) (a .doors .now)) (a .door) (close) (omega arith), doors-same (a .door) (a .doors .now))
+    (step-past (unitIn (now (a .marks)) (now (a .rows)) (a .doors .now)) (a .door) (close) (omega arith), doors-same (a .door) (a .doors .now))
 
 position-at-requires : tie.Need-position-at-requires
 position-at-requires c κs = search needs
@@ -36,7 +36,7 @@ returns-2 : tie.Need-returns-2
 unfolding doorsN outcome
 returns-2 c =
     let a = c .before .before .before .before .before .before .before .before .args in
-    (step-placed (now (a .owners)) (now (a .rows)) (a .doors .now) (a .door) (omega arith) _ (c .before .before .before .before .before .position-at .ensures) (close) _ _ _ _ (c .before .before .before .before .close .ensures) (c .put-door .ensures), put-kept (a .doors .now) _ (a .door) _ (c .put-door .ensures))
+    (step-placed (now (a .marks)) (now (a .rows)) (a .doors .now) (a .door) (omega arith) _ (c .before .before .before .before .before .position-at .ensures) (close) _ _ _ _ (c .before .before .before .before .close .ensures) (c .put-door .ensures), put-kept (a .doors .now) _ (a .door) _ (c .put-door .ensures))
 
 pub close-spec : {M : Type 1} → statement M
 close-spec =

@@ -20,7 +20,7 @@ returns : tie.Need-returns
 unfolding doorsN lentOf
 returns c =
     let a = c .before .before .args in
-    step-past (unitIn (now (a .owners)) (now (a .rows)) (now (a .doors))) (a .door) (resend (a .out .now)) (omega arith)
+    step-past (unitIn (now (a .marks)) (now (a .rows)) (now (a .doors))) (a .door) (resend (a .out .now)) (omega arith)
 
 position-at-requires : tie.Need-position-at-requires
 position-at-requires c κs = search needs
@@ -35,7 +35,7 @@ returns-2 : tie.Need-returns-2
 unfolding doorsN outcome
 returns-2 c =
     let a = c .before .before .before .before .before .before .before .args in
-    step-looked (now (a .owners)) (now (a .rows)) (now (a .doors)) (a .door) (omega arith) _ (c .before .before .before .before .position-at .ensures) (resend (a .out .now)) _ _ (c .before .before .resend .ensures)
+    step-looked (now (a .marks)) (now (a .rows)) (now (a .doors)) (a .door) (omega arith) _ (c .before .before .before .before .position-at .ensures) (resend (a .out .now)) _ _ (c .before .before .resend .ensures)
 
 pub resend-spec : {M : Type 1} → statement M
 resend-spec =

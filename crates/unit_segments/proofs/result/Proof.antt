@@ -24,7 +24,7 @@ returns : tie.Need-returns
 unfolding doorsN lentOf
 returns c =
     let a = c .before .before .args in
-    let e = step-past (unitIn (now (a .owners)) (now (a .rows)) (now (a .doors))) (a .door) (result (a .out .now)) (omega arith) in
+    let e = step-past (unitIn (now (a .marks)) (now (a .rows)) (now (a .doors))) (a .door) (result (a .out .now)) (omega arith) in
     (e, ap (λ (s : Step). secretBeside (s .told .reply)) e)
 
 position-at-requires : tie.Need-position-at-requires
@@ -41,7 +41,7 @@ unfolding doorsN outcome
 returns-2 c =
     let a = c .before .before .before .before .before .before .before .before .args in
     let told = c .before .before .before .result .ensures in
-    let e = step-looked (now (a .owners)) (now (a .rows)) (now (a .doors)) (a .door) (omega arith) _ (c .before .before .before .before .before .position-at .ensures) (result (a .out .now)) _ _ (told .0) in
+    let e = step-looked (now (a .marks)) (now (a .rows)) (now (a .doors)) (a .door) (omega arith) _ (c .before .before .before .before .before .position-at .ensures) (result (a .out .now)) _ _ (told .0) in
     (e, told .1 ∙ ap (λ (o : Outcome). secretBeside (o .reply)) (sym (told .0)) ∙ ap (λ (s : Step). secretBeside (s .told .reply)) e)
 
 pub result-spec : {M : Type 1} → statement M

@@ -6,11 +6,12 @@ use super::{abi, Reply};
 
 const DOORS: usize = 24;
 const ROWS: usize = 96;
+const WORDS: usize = ROWS / 32;
 const ROW: usize = 52;
 const DOOR: usize = 148;
 const SECRET: usize = 32;
 
-type Owners = [u8; ROWS];
+type Marks = [u32; WORDS];
 type Rows = [[u8; ROW]; ROWS];
 type Doors = [[u8; DOOR]; DOORS];
 
@@ -18,7 +19,7 @@ type Doors = [[u8; DOOR]; DOORS];
 #[cfg_attr(test, derive(Clone))]
 #[repr(C)]
 pub(crate) struct Unit {
-    owners: Owners,
+    marks: Marks,
     rows: Rows,
     doors: Doors,
 }
@@ -26,7 +27,7 @@ pub(crate) struct Unit {
 impl Unit {
     /// Takes over every byte of another unit, in place.
     pub(crate) fn copy_from(&mut self, other: &Unit) {
-        self.owners.copy_from_slice(&other.owners);
+        self.marks.copy_from_slice(&other.marks);
         self.rows.copy_from_slice(&other.rows);
         self.doors.copy_from_slice(&other.doors);
     }
@@ -41,18 +42,18 @@ pub(crate) struct ResultReply {
 
 // The layout that hosts/c/layout.c finds in the library.
 const _: () = {
-    assert!(size_of::<Unit>() == 8640 && align_of::<Unit>() == 1);
-    assert!(offset_of!(Unit, owners) == 0 && offset_of!(Unit, rows) == 96);
-    assert!(offset_of!(Unit, doors) == 5088);
+    assert!(size_of::<Unit>() == 8556 && align_of::<Unit>() == 4);
+    assert!(offset_of!(Unit, marks) == 0 && offset_of!(Unit, rows) == 12);
+    assert!(offset_of!(Unit, doors) == 5004);
     assert!(size_of::<ResultReply>() == 48 && align_of::<ResultReply>() == 8);
     assert!(offset_of!(ResultReply, reply) == 0 && offset_of!(ResultReply, secret) == 16);
 };
 
 // A reference to an array is a pointer that is not null, to bytes that are all there; no two of one call overlap where one of them is `&mut`.
 extern "C" {
-    fn door_link_erase(owners: &mut Owners, rows: &mut Rows, doors: &mut Doors) -> Reply;
+    fn door_link_erase(marks: &mut Marks, rows: &mut Rows, doors: &mut Doors) -> Reply;
     fn door_link_offer(
-        owners: &mut Owners,
+        marks: &mut Marks,
         rows: &mut Rows,
         doors: &mut Doors,
         door: usize,
@@ -68,7 +69,7 @@ extern "C" {
         out_length: usize,
     ) -> Reply;
     fn door_link_answer(
-        owners: &mut Owners,
+        marks: &mut Marks,
         rows: &mut Rows,
         doors: &mut Doors,
         door: usize,
@@ -84,7 +85,7 @@ extern "C" {
         out_length: usize,
     ) -> Reply;
     fn door_link_receive(
-        owners: &Owners,
+        marks: &Marks,
         rows: &Rows,
         doors: &mut Doors,
         door: usize,
@@ -94,7 +95,7 @@ extern "C" {
         area_length: usize,
     ) -> Reply;
     fn door_link_resend(
-        owners: &Owners,
+        marks: &Marks,
         rows: &Rows,
         doors: &Doors,
         door: usize,
@@ -102,16 +103,16 @@ extern "C" {
         out_length: usize,
     ) -> Reply;
     fn door_link_result(
-        owners: &Owners,
+        marks: &Marks,
         rows: &Rows,
         doors: &Doors,
         door: usize,
         out: *mut u8,
         out_length: usize,
     ) -> ResultReply;
-    fn door_link_close(owners: &Owners, rows: &Rows, doors: &mut Doors, door: usize) -> Reply;
+    fn door_link_close(marks: &Marks, rows: &Rows, doors: &mut Doors, door: usize) -> Reply;
     fn door_link_store(
-        owners: &mut Owners,
+        marks: &mut Marks,
         rows: &mut Rows,
         doors: &mut Doors,
         door: usize,
@@ -123,7 +124,7 @@ extern "C" {
         secret_length: usize,
     ) -> Reply;
     fn door_link_forget(
-        owners: &mut Owners,
+        marks: &mut Marks,
         rows: &mut Rows,
         doors: &mut Doors,
         door: usize,
@@ -131,14 +132,14 @@ extern "C" {
         identifier: *const u8,
         identifier_length: usize,
     ) -> Reply;
-    fn door_link_count(owners: &Owners, rows: &Rows, doors: &Doors, door: usize) -> Reply;
+    fn door_link_count(marks: &Marks, rows: &Rows, doors: &Doors, door: usize) -> Reply;
 }
 
 /// The empty unit. There is no other maker of a unit, so a program that has one was linked with a library of this interface.
 pub(crate) fn new() -> Unit {
     abi();
     let mut unit = Unit {
-        owners: [0; ROWS],
+        marks: [0; WORDS],
         rows: [[0; ROW]; ROWS],
         doors: [[0; DOOR]; DOORS],
     };
@@ -156,7 +157,7 @@ pub(crate) fn offer(
     // SAFETY: pointers and lengths are those of slices, and `out` is lent alone.
     unsafe {
         door_link_offer(
-            &mut unit.owners,
+            &mut unit.marks,
             &mut unit.rows,
             &mut unit.doors,
             door,
@@ -184,7 +185,7 @@ pub(crate) fn answer(
     // SAFETY: pointers and lengths are those of slices, and `out` is lent alone.
     unsafe {
         door_link_answer(
-            &mut unit.owners,
+            &mut unit.marks,
             &mut unit.rows,
             &mut unit.doors,
             door,
@@ -206,7 +207,7 @@ pub(crate) fn receive(unit: &mut Unit, door: usize, syn: bool, ack: bool, area: 
     // SAFETY: pointer and length are those of a slice.
     unsafe {
         door_link_receive(
-            &unit.owners,
+            &unit.marks,
             &unit.rows,
             &mut unit.doors,
             door,
@@ -222,7 +223,7 @@ pub(crate) fn resend(unit: &Unit, door: usize, out: &mut [u8]) -> Reply {
     // SAFETY: pointer and length are those of a slice that is lent alone.
     unsafe {
         door_link_resend(
-            &unit.owners,
+            &unit.marks,
             &unit.rows,
             &unit.doors,
             door,
@@ -236,7 +237,7 @@ pub(crate) fn result(unit: &Unit, door: usize, out: &mut [u8]) -> ResultReply {
     // SAFETY: pointer and length are those of a slice that is lent alone.
     unsafe {
         door_link_result(
-            &unit.owners,
+            &unit.marks,
             &unit.rows,
             &unit.doors,
             door,
@@ -248,7 +249,7 @@ pub(crate) fn result(unit: &Unit, door: usize, out: &mut [u8]) -> ResultReply {
 
 pub(crate) fn close(unit: &mut Unit, door: usize) -> Reply {
     // SAFETY: the call takes references and a number.
-    unsafe { door_link_close(&unit.owners, &unit.rows, &mut unit.doors, door) }
+    unsafe { door_link_close(&unit.marks, &unit.rows, &mut unit.doors, door) }
 }
 
 pub(crate) fn store(
@@ -262,7 +263,7 @@ pub(crate) fn store(
     // SAFETY: pointers and lengths are those of slices.
     unsafe {
         door_link_store(
-            &mut unit.owners,
+            &mut unit.marks,
             &mut unit.rows,
             &mut unit.doors,
             door,
@@ -280,7 +281,7 @@ pub(crate) fn forget(unit: &mut Unit, door: usize, tep: u8, identifier: &[u8]) -
     // SAFETY: pointer and length are those of a slice.
     unsafe {
         door_link_forget(
-            &mut unit.owners,
+            &mut unit.marks,
             &mut unit.rows,
             &mut unit.doors,
             door,
@@ -293,13 +294,13 @@ pub(crate) fn forget(unit: &mut Unit, door: usize, tep: u8, identifier: &[u8]) -
 
 pub(crate) fn count(unit: &Unit, door: usize) -> Reply {
     // SAFETY: the call takes references and a number.
-    unsafe { door_link_count(&unit.owners, &unit.rows, &unit.doors, door) }
+    unsafe { door_link_count(&unit.marks, &unit.rows, &unit.doors, door) }
 }
 
 /// Makes the empty unit of whatever bytes it has, all of them 0. The compiler does not look into the library, so it does not leave the call out.
 pub(crate) fn erase(unit: &mut Unit) -> Reply {
     // SAFETY: the call takes references.
-    unsafe { door_link_erase(&mut unit.owners, &mut unit.rows, &mut unit.doors) }
+    unsafe { door_link_erase(&mut unit.marks, &mut unit.rows, &mut unit.doors) }
 }
 
 #[cfg(test)]
@@ -309,7 +310,7 @@ mod tests {
     impl Unit {
         fn bytes(&self) -> std::vec::Vec<u8> {
             [
-                &self.owners[..],
+                self.marks.map(u32::to_ne_bytes).as_flattened(),
                 self.rows.as_flattened(),
                 self.doors.as_flattened(),
             ]
@@ -321,7 +322,7 @@ mod tests {
     #[test]
     fn calls_that_change_nothing() {
         let mut unit = new();
-        assert_eq!(unit.bytes(), [0; 8640]);
+        assert_eq!(unit.bytes(), [0; 8556]);
         assert_eq!(store(&mut unit, 5, 0x23, 0, &[7; 18], &[9; 32]).kind, 5);
         let ask = crate::untyped::Offer {
             b: 0,
@@ -354,7 +355,7 @@ mod tests {
     fn any_bytes() {
         for byte in [1, 4, 0x45, 0xff] {
             let mut unit = Unit {
-                owners: [byte; ROWS],
+                marks: [u32::from_ne_bytes([byte; 4]); WORDS],
                 rows: [[byte; ROW]; ROWS],
                 doors: [[byte; DOOR]; DOORS],
             };
@@ -365,9 +366,9 @@ mod tests {
             for door in (0..DOORS).filter(|door| ![5, 7].contains(door)) {
                 assert_eq!(unit.doors[door], before.doors[door]);
             }
-            assert!(unit.rows == before.rows && unit.owners == before.owners);
+            assert!(unit.rows == before.rows && unit.marks == before.marks);
             assert_eq!(erase(&mut unit).kind, 5);
-            assert_eq!(unit.bytes(), [0; 8640]);
+            assert_eq!(unit.bytes(), [0; 8556]);
         }
     }
 }

@@ -6,10 +6,10 @@ use Rattle.bench.proofs.run.unit_table.Statement.{statement}
 use Rattle.bench.proofs.run.unit_table.Tie as tie
 
 abbrev Inv-loop : tie.InvT-loop
-Inv-loop table owners₀ rows₀ doors₀ at₀ owners rows doors at = at ≤ length table
+Inv-loop table marks₀ rows₀ doors₀ at₀ marks rows doors at = at ≤ length table
 
 abbrev μ-loop : tie.MeasureT-loop
-μ-loop table owners₀ rows₀ doors₀ at₀ owners rows doors at = length table - at
+μ-loop table marks₀ rows₀ doors₀ at₀ marks rows doors at = length table - at
 
 erase-requires : tie.Need-erase-requires Inv-loop μ-loop
 erase-requires c κs = search needs

@@ -1,0 +1,3 @@
+-- Laws of marks in words.
+pub mod Words
+pub mod Places
