@@ -6,8 +6,8 @@ use super::suboptions::{Class, Contents};
 use super::{known, Session};
 use crate::driver::calls::{Cause, PhaseNow, Reply, Unit};
 
-const DOORS: usize = 24;
-const ROWS: usize = 96;
+use door_link::{DOORS, ROWS};
+
 const EACH: usize = 4;
 
 /// An option as it was sent or received.
