@@ -1,4 +1,4 @@
-/* The link unit for hosts in C: TCP-ENO options (RFC 8547), resumption of tcpcrypt sessions (RFC 8548), 24 doors, one pool of 96 session records. What comes
+/* The link unit for hosts in C: TCP-ENO options (RFC 8547), resumption of tcpcrypt sessions (RFC 8548), all doors of a platform, one pool of session records. What comes
  * after the handshake, Init messages, frames and generations, is in door_link_messages.h, which this header includes.
  *
  * Link with libdoor_link.a, which `tools/host-library` writes to target/staticlib and `tools/install PREFIX` puts in place with these headers, a pkg-config file and a
@@ -83,22 +83,26 @@ extern "C" {
 #endif
 
 /* The number of this header. Each change of a struct, of an export or of a number raises it, and the library exports one name that carries its own,
- * door_link_abi_3. The inline functions refer to the name with the header's number, so a program that was compiled with another header does not link. */
-#define DOOR_LINK_ABI 3
+ * door_link_abi_4. The inline functions refer to the name with the header's number, so a program that was compiled with another header does not link. */
+#define DOOR_LINK_ABI 4
 
 enum {
-    DOOR_LINK_DOORS = 24,       /* doors are 0 to 23 */
+    DOOR_LINK_DOORS = 48,       /* doors are 0 to DOOR_LINK_DOORS - 1 */
     DOOR_LINK_RECORDS = 4,      /* session records that a door may hold */
-    DOOR_LINK_ROWS = 96,        /* rows of the pool, one for each record that may be held */
-    DOOR_LINK_WORDS = DOOR_LINK_ROWS / 32, /* words of marks, one bit for each row */
+    DOOR_LINK_ROWS = 192,       /* rows of the pool, one for each record that may be held */
     DOOR_LINK_ROW_BYTES = 52,   /* bytes of a row */
     DOOR_LINK_DOOR_BYTES = 148, /* bytes of a door */
-    DOOR_LINK_UNIT = 4 * DOOR_LINK_WORDS + DOOR_LINK_ROWS * DOOR_LINK_ROW_BYTES + DOOR_LINK_DOORS * DOOR_LINK_DOOR_BYTES, /* bytes of a unit */
     DOOR_LINK_OPTION = 40,      /* a buffer of this length is long enough for any option */
     DOOR_LINK_TRANSCRIPT = 80,  /* and one of this length for any transcript */
     DOOR_LINK_IDENTIFIER = 18,  /* bytes of a session's identifier */
     DOOR_LINK_SECRET = 32,      /* bytes of a session's secret */
     DOOR_LINK_NONCE_BYTES = 8   /* bytes of a resumption's nonce, as it should be */
+};
+
+/* Words of marks, one bit for each row; and bytes of a unit. */
+enum {
+    DOOR_LINK_WORDS = DOOR_LINK_ROWS / 32,
+    DOOR_LINK_UNIT = 4 * DOOR_LINK_WORDS + DOOR_LINK_ROWS * DOOR_LINK_ROW_BYTES + DOOR_LINK_DOORS * DOOR_LINK_DOOR_BYTES
 };
 
 /* Bytes of stack that a call takes at most; hosts/c/stack.c measures it. */
@@ -128,7 +132,7 @@ enum {
 
 /* Refusals. */
 enum {
-    DOOR_LINK_NO_DOOR = 1,        /* door above 23 */
+    DOOR_LINK_NO_DOOR = 1,        /* no door has this number */
     DOOR_LINK_AREA_TOO_LONG = 2,  /* option area above 40 bytes */
     DOOR_LINK_UNFIT = 3,          /* an argument that does not fit: see each call */
     DOOR_LINK_OUT_OF_TURN = 4,    /* not in this phase; not while a rekey frame is owed (before FINp) */
@@ -274,8 +278,8 @@ struct door_link_reply door_link_forget(uint32_t *marks, uint8_t (*rows)[DOOR_LI
 struct door_link_reply door_link_count(const uint32_t *marks, const uint8_t (*rows)[DOOR_LINK_ROW_BYTES], const uint8_t (*doors)[DOOR_LINK_DOOR_BYTES],
                                        size_t door);
 
-/* Gives 3. It is there for its name: see DOOR_LINK_ABI. */
-size_t door_link_abi_3(void);
+/* Gives 4. It is there for its name: see DOOR_LINK_ABI. */
+size_t door_link_abi_4(void);
 
 /* The bytes of a unit, DOOR_LINK_UNIT, for hosts that do not compile this header. */
 size_t door_link_unit_size(void);

@@ -186,7 +186,7 @@ static void exchange_frames(struct end *a, struct end *b) {
 int main(void) {
     static const uint8_t tep = DOOR_LINK_CURVE25519;
     static const uint8_t zeros[DOOR_LINK_SECRET] = {0};
-    static struct end active = {.door = 0}, passive = {.door = 23};
+    static struct end active = {.door = 0}, passive = {.door = DOOR_LINK_DOORS - 1};
     door_link_unit_erase(&active.unit);
     door_link_unit_erase(&passive.unit);
     uint8_t identifier[DOOR_LINK_IDENTIFIER], secret[DOOR_LINK_SECRET];

@@ -20,12 +20,14 @@ _Static_assert(offsetof(struct door, mandatory) == 1 && offsetof(struct door, re
 _Static_assert(offsetof(struct door, resumed) == 7 && offsetof(struct door, held) == 10 && offsetof(struct door, rows) == 14, "a door's numbers");
 _Static_assert(offsetof(struct door, own) == 18 && offsetof(struct door, peer) == 58, "a door's options");
 _Static_assert(offsetof(struct door, hand_identifier) == 98 && offsetof(struct door, hand_secret) == 116, "a door's record in hand");
-_Static_assert(sizeof(struct unit) == 8556 && _Alignof(struct unit) == 4, "a unit");
-_Static_assert(offsetof(struct unit, rows) == 12 && offsetof(struct unit, doors) == 5004, "a unit's fields");
+_Static_assert(DOOR_LINK_WORDS * 32 == DOOR_LINK_ROWS && DOOR_LINK_DOORS * DOOR_LINK_RECORDS <= DOOR_LINK_ROWS, "a mark for each row, rows for all");
+enum { ROWS_AT = 4 * DOOR_LINK_WORDS, DOORS_AT = ROWS_AT + 52 * DOOR_LINK_ROWS, UNIT_SIZE = DOORS_AT + 148 * DOOR_LINK_DOORS };
+_Static_assert(sizeof(struct unit) == UNIT_SIZE && _Alignof(struct unit) == 4, "a unit");
+_Static_assert(offsetof(struct unit, rows) == ROWS_AT && offsetof(struct unit, doors) == DOORS_AT, "a unit's fields");
 
 _Static_assert(sizeof(struct door_link_unit) == sizeof(struct unit) && _Alignof(struct door_link_unit) == 4, "the header's unit");
 _Static_assert(sizeof(struct door_link_unit) == DOOR_LINK_UNIT && offsetof(struct door_link_unit, marks) == 0, "the header's unit: its size, marks");
-_Static_assert(offsetof(struct door_link_unit, rows) == 12 && offsetof(struct door_link_unit, doors) == 5004, "the header's unit: rows, doors");
+_Static_assert(offsetof(struct door_link_unit, rows) == ROWS_AT && offsetof(struct door_link_unit, doors) == DOORS_AT, "the header's unit: rows, doors");
 _Static_assert(sizeof(struct door_link_reply) == 16 && _Alignof(struct door_link_reply) == 8, "the header's reply");
 _Static_assert(offsetof(struct door_link_reply, number) == 0 && offsetof(struct door_link_reply, kind) == 8, "the header's reply: number, kind");
 _Static_assert(offsetof(struct door_link_reply, role) == 9 && offsetof(struct door_link_reply, tep) == 10, "the header's reply: role, tep");
@@ -276,6 +278,7 @@ static void places(void) {
 }
 
 int main(void) {
+    enum { LAST = DOOR_LINK_DOORS - 1, OTHER = DOOR_LINK_DOORS - 2 };
     static const uint8_t teps[2] = {0x21, 0x24};
     static const uint8_t nonce[3] = {7, 8, 9};
     struct door_link_unit unit;
@@ -287,42 +290,42 @@ int main(void) {
     memset(&unit, 0xee, sizeof unit);
     door_link_unit_erase(&unit);
     EXPECT(all_zero((const uint8_t *)&unit, sizeof unit));
-    EXPECT(door_link_abi_3() == DOOR_LINK_ABI && door_link_unit_size() == sizeof unit);
+    EXPECT(door_link_abi_4() == DOOR_LINK_ABI && door_link_unit_size() == sizeof unit);
 
     /* The second record's row, and its number at the door. */
-    EXPECT(door_link_unit_store(&unit, 22, 0x23, 0, identifier, 18, secret, 32).kind == DOOR_LINK_DONE);
-    EXPECT(door_link_unit_store(&unit, 23, 0x24, 1, identifier, 18, secret, 32).kind == DOOR_LINK_DONE);
+    EXPECT(door_link_unit_store(&unit, OTHER, 0x23, 0, identifier, 18, secret, 32).kind == DOOR_LINK_DONE);
+    EXPECT(door_link_unit_store(&unit, LAST, 0x24, 1, identifier, 18, secret, 32).kind == DOOR_LINK_DONE);
     struct unit u = seen(&unit);
-    EXPECT(u.marks[0] == 3 && u.marks[1] == 0 && u.marks[2] == 0);
+    EXPECT(u.marks[0] == 3 && all_zero((const uint8_t *)(u.marks + 1), sizeof u.marks - sizeof u.marks[0]));
     EXPECT(u.rows[1].tep == 0x24 && u.rows[1].role == 1);
     EXPECT(memcmp(u.rows[1].identifier, identifier, 18) == 0 && memcmp(u.rows[1].secret, secret, 32) == 0);
-    EXPECT(u.doors[23].count == 1 && u.doors[23].rows[0] == 1 && u.doors[23].phase == 0);
+    EXPECT(u.doors[LAST].count == 1 && u.doors[LAST].rows[0] == 1 && u.doors[LAST].phase == 0);
 
     /* Offered with that record in hand. */
-    struct door_link_reply reply = door_link_unit_offer(&unit, 23, 0, true, true, teps, 2, true, nonce, 3, out, sizeof out);
+    struct door_link_reply reply = door_link_unit_offer(&unit, LAST, 0, true, true, teps, 2, true, nonce, 3, out, sizeof out);
     EXPECT(reply.kind == DOOR_LINK_WRITTEN && reply.number == 17);
     u = seen(&unit);
-    EXPECT(u.marks[0] == 1 && u.rows[1].tep == 0 && u.doors[23].count == 0);
-    EXPECT(u.doors[23].phase == 1 && u.doors[23].mandatory == 1);
-    EXPECT(u.doors[23].own_length == 17 && memcmp(u.doors[23].own, out, 17) == 0);
-    EXPECT(u.doors[23].held == 1 && u.doors[23].hand_tep == 0x24 && u.doors[23].hand_role == 1);
-    EXPECT(memcmp(u.doors[23].hand_identifier, identifier, 18) == 0);
-    EXPECT(memcmp(u.doors[23].hand_secret, secret, 32) == 0);
+    EXPECT(u.marks[0] == 1 && u.rows[1].tep == 0 && u.doors[LAST].count == 0);
+    EXPECT(u.doors[LAST].phase == 1 && u.doors[LAST].mandatory == 1);
+    EXPECT(u.doors[LAST].own_length == 17 && memcmp(u.doors[LAST].own, out, 17) == 0);
+    EXPECT(u.doors[LAST].held == 1 && u.doors[LAST].hand_tep == 0x24 && u.doors[LAST].hand_role == 1);
+    EXPECT(memcmp(u.doors[LAST].hand_identifier, identifier, 18) == 0);
+    EXPECT(memcmp(u.doors[LAST].hand_secret, secret, 32) == 0);
 
     /* Open: the other side answers with the half that this end expects. */
     memcpy(area, "\x45\x0d\x03\xa4", 4);
     memcpy(area + 4, identifier, 9);
-    EXPECT(door_link_unit_receive(&unit, 23, true, true, area, 13).number == DOOR_LINK_OPEN);
+    EXPECT(door_link_unit_receive(&unit, LAST, true, true, area, 13).number == DOOR_LINK_OPEN);
     u = seen(&unit);
-    EXPECT(u.doors[23].phase == 4 && u.doors[23].role == 0 && u.doors[23].tep == 0xa4 && u.doors[23].resumed == 1);
-    EXPECT(u.doors[23].peer_length == 13 && memcmp(u.doors[23].peer, area, 13) == 0);
+    EXPECT(u.doors[LAST].phase == 4 && u.doors[LAST].role == 0 && u.doors[LAST].tep == 0xa4 && u.doors[LAST].resumed == 1);
+    EXPECT(u.doors[LAST].peer_length == 13 && memcmp(u.doors[LAST].peer, area, 13) == 0);
 
     /* Plain: the other side has no option. */
-    EXPECT(door_link_unit_offer(&unit, 22, 1, false, false, teps, 2, false, nonce, 0, out, sizeof out).number == 5);
-    reply = door_link_unit_receive(&unit, 22, true, true, area, 0);
+    EXPECT(door_link_unit_offer(&unit, OTHER, 1, false, false, teps, 2, false, nonce, 0, out, sizeof out).number == 5);
+    reply = door_link_unit_receive(&unit, OTHER, true, true, area, 0);
     EXPECT(reply.kind == DOOR_LINK_PLAIN && reply.number == DOOR_LINK_NO_OPTION && !reply.place && !reply.option);
     u = seen(&unit);
-    EXPECT(u.doors[22].phase == 5 && u.doors[22].reason == DOOR_LINK_NO_OPTION && !u.doors[22].place && !u.doors[22].kind);
+    EXPECT(u.doors[OTHER].phase == 5 && u.doors[OTHER].reason == DOOR_LINK_NO_OPTION && !u.doors[OTHER].place && !u.doors[OTHER].kind);
 
     init_messages();
     frames();

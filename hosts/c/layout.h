@@ -37,9 +37,9 @@ struct door {
 
 /* All of them: bit i % 32, from the lowest, of word i / 32 is row i's mark, set where the row is in use. */
 struct unit {
-    uint32_t marks[3];
-    struct session_record rows[96];
-    struct door doors[24];
+    uint32_t marks[DOOR_LINK_WORDS];
+    struct session_record rows[DOOR_LINK_ROWS];
+    struct door doors[DOOR_LINK_DOORS];
 };
 
 /* Whether a row is marked. */

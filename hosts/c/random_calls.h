@@ -120,8 +120,8 @@ static struct session_record some_record(const struct door *door) {
 static void some_area(const struct door *door, const struct session_record *record) {
     uint8_t *area = asked.area;
     size_t length = 0;
+    fill(area, sizeof asked.area); /* nothing is left of the area of an earlier call, which may quote another door's record */
     if (one_in(4)) {
-        fill(area, sizeof asked.area);
         asked.area_length = below(42);
         return;
     }

@@ -136,13 +136,13 @@ resumption data of 18 bytes from host A: bad
 fn doors_and_records() {
     run::unit_table(
         b"\
-doors 23, 24: taken, 1
-  door 23 store TEP 23 role 0 identifier 00 .. 11 -> done
-  door 24 store TEP 23 role 0 identifier 00 .. 11 -> refused 1
-  door 23 count -> holds 1
-  door 24 count -> refused 1
-  door 23 offer role 0 TEPs 23 -> wrote 3: 45 03 23
-  door 24 offer role 0 TEPs 23 -> refused 1
+doors 47, 48: taken, 1
+  door 47 store TEP 23 role 0 identifier 00 .. 11 -> done
+  door 48 store TEP 23 role 0 identifier 00 .. 11 -> refused 1
+  door 47 count -> holds 1
+  door 48 count -> refused 1
+  door 47 offer role 0 TEPs 23 -> wrote 3: 45 03 23
+  door 48 offer role 0 TEPs 23 -> refused 1
 fifth record: 6
   store TEP 21 role 0 identifier 00 .. 11 -> done
   store TEP 22 role 0 identifier 00 .. 11 -> done

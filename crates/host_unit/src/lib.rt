@@ -22,10 +22,10 @@ const UNIT_SIZE: usize = WORDS * WORD + ROWS * ROW + DOORS * PLACE;
 
 // The number of this interface, which its name carries: a host built for another does not link.
 #[no_mangle]
-pub extern "C" fn door_link_abi_3() -> usize
-    ensures { λ r. ⌜ r ≡ 3 ⌝ }
+pub extern "C" fn door_link_abi_4() -> usize
+    ensures { λ r. ⌜ r ≡ 4 ⌝ }
 {
-    3
+    4
 }
 
 // The bytes of the three arrays: words of marks, rows and doors.

@@ -5,10 +5,10 @@ use lib.Dec.{lit≤}
 use Rattle.door.specs.Numbers.{eachN}
 
 unfoldable pub doorsN : ℕ
-doorsN = 24
+doorsN = 48
 
 unfoldable pub rowsN : ℕ
-rowsN = 96
+rowsN = 192
 
 -- the marks of a word, and the words that all rows need
 unfoldable pub wordN : ℕ

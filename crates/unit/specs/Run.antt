@@ -28,7 +28,7 @@ pub record Step : Type 0 where
 unfoldable pub carried : LinkUnit → ℕ → Outcome → Step
 carried u d o = record { told = record { reply = o .reply; buffer = o .buffer }; unit = enact u d (o .door) (o .effect) }
 
--- number 1: door above 23
+-- number 1: a door that is not ours
 unfoldable pub stepOn : Bool → LinkUnit → ℕ → Ask → Step
 stepOn false u d a = record { told = record { reply = refused 1; buffer = lentOf a }; unit = u }
 stepOn true u d a = carried u d (outcome (isFree u) (view u d) a)

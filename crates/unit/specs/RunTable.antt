@@ -106,7 +106,7 @@ k2A = 0x45 ∷ 5 ∷ 0x21 ∷ 0x23 ∷ 0x24 ∷ []
 abbrev k2B : List ℕ
 k2B = 0x45 ∷ 5 ∷ 1 ∷ 0x23 ∷ 0x21 ∷ []
 
--- doors 23 and 24: the last, and one that is not ours
+-- the last door, and one that is not ours
 abbrev lastDoor : ℕ
 lastDoor = doorsN - 1
 
@@ -197,7 +197,7 @@ runs =
     ∷ run (on 3 storeR ∷ on 3 (offerK1 true 13) ∷ on 3 storeR ∷ on 4 (offerK1 true 4) ∷ on 4 storeR ∷ on 4 count ∷ []) (done ∷ written 13 ∷ refused 7 ∷ written 4 ∷ done ∷ holds 1 ∷ []) []
     -- store, count, forget, count
     ∷ run (on 9 count ∷ on 9 storeR ∷ on 9 count ∷ on 9 storeR ∷ on 9 forgetR ∷ on 9 count ∷ on 9 forgetR ∷ []) (holds 0 ∷ done ∷ holds 1 ∷ refused 7 ∷ done ∷ holds 0 ∷ refused 16 ∷ []) []
-    -- doors 23 and 24
+    -- the last door, and one that is not ours
     ∷ run (on lastDoor storeR ∷ on lastDoor count ∷ on lastDoor (offerK1 false 4) ∷ on lastDoor close ∷ []) (done ∷ holds 1 ∷ written 4 ∷ done ∷ []) []
     ∷ run
     (on noDoor (offerK1 false 4)

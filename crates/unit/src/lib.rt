@@ -3,9 +3,9 @@ use door::Door;
 use door::EACH;
 use eno::SessionRecord;
 
-pub const DOORS: usize = 24;
+pub const DOORS: usize = 48;
 
-pub const ROWS: usize = 96;
+pub const ROWS: usize = 192;
 
 // Words of marks, one bit for each row.
 pub const WORDS: usize = ROWS / 32;

@@ -1,4 +1,4 @@
-//! The link unit for hosts in Rust: TCP-ENO options (RFC 8547), resumption of tcpcrypt sessions (RFC 8548), 24 doors, one pool of 96 session
+//! The link unit for hosts in Rust: TCP-ENO options (RFC 8547), resumption of tcpcrypt sessions (RFC 8548), the doors of a platform, one pool of session
 //! records, Init messages, frames and generations. A safe crate over the library of the crates `host_*`, every function of which is proved; it has no heap,
 //! no global and no thread, and needs no `std`.
 //!
@@ -152,8 +152,10 @@ pub use reply::{Error, Outcome, Phase, Reason, Refusal, Reply, Role, Secret, Sta
 pub use tep::Tep;
 pub use unit::{Answer, LinkUnit, Offer};
 
-/// Doors are 0 to 23.
-pub const DOORS: usize = 24;
+/// Doors are 0 to `DOORS - 1`.
+pub const DOORS: usize = 48;
+/// Rows of the pool, one for each session record that may be held.
+pub const ROWS: usize = 192;
 /// Session records that a door may hold.
 pub const RECORDS: usize = 4;
 /// A buffer of this length is long enough for any option, and an option area is no longer.

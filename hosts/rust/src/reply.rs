@@ -21,7 +21,7 @@ pub enum Error {
 #[non_exhaustive]
 #[repr(u8)]
 pub enum Refusal {
-    /// The door is above 23.
+    /// No door has this number.
     NoDoor = 1,
     /// The option area is above 40 bytes.
     AreaTooLong = 2,

@@ -57,7 +57,7 @@ impl LinkUnit {
     /// The empty unit: every door Idle, no session record.
     ///
     /// ```
-    /// assert_eq!(door_link::LinkUnit::new().count(23), Ok(0));
+    /// assert_eq!(door_link::LinkUnit::new().count(door_link::DOORS - 1), Ok(0));
     /// ```
     pub fn new() -> LinkUnit {
         LinkUnit { unit: ffi::new() }
@@ -223,8 +223,8 @@ impl LinkUnit {
     /// ```
     /// use door_link::{Error, LinkUnit, Refusal};
     /// let mut unit = LinkUnit::new();
-    /// assert_eq!(unit.close(23), Ok(()));
-    /// assert_eq!(unit.close(24), Err(Error::Refused(Refusal::NoDoor)));
+    /// assert_eq!(unit.close(door_link::DOORS - 1), Ok(()));
+    /// assert_eq!(unit.close(door_link::DOORS), Err(Error::Refused(Refusal::NoDoor)));
     /// ```
     pub fn close(&mut self, door: usize) -> Result<(), Error> {
         let reply = ffi::close(&mut self.unit, door);

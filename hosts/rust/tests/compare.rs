@@ -85,8 +85,8 @@ fn small_cases_in_full() {
     println!("  calls {}", good(every::areas(&Wire, &Calls)));
     let pool = good(every::pool(Model::new(), Binding::new()));
     pool.print("the full pool");
-    assert_eq!(pool.of("records brought out"), 96);
-    assert_eq!(pool.of("resumed open"), 96);
+    assert_eq!(pool.of("records brought out"), door_link::ROWS as u64);
+    assert_eq!(pool.of("resumed open"), door_link::ROWS as u64);
 }
 
 /// Every place at which an area can be unreadable, before every call that reads one.

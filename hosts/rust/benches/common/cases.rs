@@ -2,7 +2,7 @@
 
 use crate::driver::calls::{Reply, Unit};
 
-pub const DOORS: usize = 24;
+pub use door_link::DOORS;
 const TEPS: [u8; 2] = [0x21, 0x23];
 const SECRET: [u8; 32] = [0x5a; 32];
 /// Host A's first option, and host B's to it.

@@ -6,8 +6,8 @@ use super::suboptions::{Class, Contents};
 use super::{known, Session};
 use crate::driver::calls::{Cause, PhaseNow, Reply, Unit};
 
-const DOORS: usize = 24;
-const ROWS: usize = 96;
+use door_link::{DOORS, ROWS};
+
 const EACH: usize = 4;
 
 /// An option as it was sent or received.
@@ -91,7 +91,7 @@ pub struct Plain {
     doors: [Door; DOORS],
     rows: [Session; ROWS],
     /// A bit for each row in use.
-    used: u128,
+    used: [u64; ROWS.div_ceil(64)],
 }
 
 /// The option that an offer or an answer sends.
@@ -206,7 +206,7 @@ impl Plain {
         Plain {
             doors: [IDLE; DOORS],
             rows: [Session::NONE; ROWS],
-            used: 0,
+            used: [0; ROWS.div_ceil(64)],
         }
     }
 
@@ -216,7 +216,7 @@ impl Plain {
         let row = usize::from(door.list[place]);
         door.list.copy_within(place + 1.., place);
         door.count -= 1;
-        self.used &= !(1 << row);
+        self.used[row / 64] &= !(1 << (row % 64));
         std::mem::replace(&mut self.rows[row], Session::NONE)
     }
 
@@ -440,8 +440,10 @@ impl Unit for Plain {
         if self.place(at, same).is_some() || (at.held && same(&at.hand)) {
             return Reply::Refused(7);
         }
-        let row = self.used.trailing_ones() as usize;
-        self.used |= 1 << row;
+        let full = self.used.iter().take_while(|word| **word == u64::MAX);
+        let word = full.count();
+        let row = 64 * word + self.used[word].trailing_ones() as usize;
+        self.used[word] |= 1 << (row % 64);
         self.rows[row] = Session {
             tep,
             role,

@@ -29,7 +29,7 @@ mod wire;
 
 // The exports name the crate's types by these.
 #[allow(unused_imports)]
-use door_link::{untyped, Enabled, Generations};
+use door_link::{untyped, Enabled, Generations, DOORS, ROWS};
 
 fn main() {
     judge::run();

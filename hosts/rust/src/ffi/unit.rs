@@ -3,13 +3,13 @@
 use core::mem::{align_of, offset_of, size_of};
 
 use super::{abi, Reply};
+use crate::{DOORS, ROWS};
 
-const DOORS: usize = 24;
-const ROWS: usize = 96;
 const WORDS: usize = ROWS / 32;
 const ROW: usize = 52;
 const DOOR: usize = 148;
 const SECRET: usize = 32;
+const SIZE: usize = 4 * WORDS + ROWS * ROW + DOORS * DOOR;
 
 type Marks = [u32; WORDS];
 type Rows = [[u8; ROW]; ROWS];
@@ -42,9 +42,10 @@ pub(crate) struct ResultReply {
 
 // The layout that hosts/c/layout.c finds in the library.
 const _: () = {
-    assert!(size_of::<Unit>() == 8556 && align_of::<Unit>() == 4);
-    assert!(offset_of!(Unit, marks) == 0 && offset_of!(Unit, rows) == 12);
-    assert!(offset_of!(Unit, doors) == 5004);
+    assert!(WORDS * 32 == ROWS && align_of::<Unit>() == 4);
+    assert!(size_of::<Unit>() == SIZE);
+    assert!(offset_of!(Unit, marks) == 0 && offset_of!(Unit, rows) == 4 * WORDS);
+    assert!(offset_of!(Unit, doors) == 4 * WORDS + ROWS * ROW);
     assert!(size_of::<ResultReply>() == 48 && align_of::<ResultReply>() == 8);
     assert!(offset_of!(ResultReply, reply) == 0 && offset_of!(ResultReply, secret) == 16);
 };
@@ -321,8 +322,13 @@ mod tests {
     /// *resend*, *result*, *count* and refused calls leave every byte of the unit.
     #[test]
     fn calls_that_change_nothing() {
+        extern "C" {
+            fn door_link_unit_size() -> usize;
+        }
+        // SAFETY: the call takes nothing.
+        assert_eq!(unsafe { door_link_unit_size() }, SIZE);
         let mut unit = new();
-        assert_eq!(unit.bytes(), [0; 8556]);
+        assert_eq!(unit.bytes(), [0; SIZE]);
         assert_eq!(store(&mut unit, 5, 0x23, 0, &[7; 18], &[9; 32]).kind, 5);
         let ask = crate::untyped::Offer {
             b: 0,
@@ -344,7 +350,7 @@ mod tests {
             let told = result(&unit, 5, out);
             assert_eq!(told.secret, if open { [9; 32] } else { [0; 32] });
             assert_eq!(count(&unit, 5).kind, 6);
-            assert_eq!(close(&mut unit, 24).kind, 0);
+            assert_eq!(close(&mut unit, DOORS).kind, 0);
             assert_eq!(offer(&mut unit, 5, &ask, out).kind, 0);
             assert_eq!(unit.bytes(), before);
         }
@@ -368,7 +374,7 @@ mod tests {
             }
             assert!(unit.rows == before.rows && unit.marks == before.marks);
             assert_eq!(erase(&mut unit).kind, 5);
-            assert_eq!(unit.bytes(), [0; 8556]);
+            assert_eq!(unit.bytes(), [0; SIZE]);
         }
     }
 }

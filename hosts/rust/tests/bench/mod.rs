@@ -218,6 +218,7 @@ fn the_plain_rust_of_the_benchmarks() {
         good(places::judge(&Wire, &Plain { judge }));
     }
     good(places::unit(Model::new(), plain::unit::Plain::new()));
+    good(every::pool(Model::new(), plain::unit::Plain::new()));
     let plain = Plain {
         judge: plain::judge::judge,
     };

@@ -6,7 +6,7 @@ use super::calls::{Finder, Reply, Unit};
 use super::counts::Counts;
 use super::list::{Call, Told};
 
-const DOORS: usize = 24;
+use door_link::DOORS;
 const TEPS: [u8; 4] = [0x24, 0x21, 0x23, 0x22];
 
 /// Two implementations that get the same calls.

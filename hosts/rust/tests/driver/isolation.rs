@@ -8,7 +8,7 @@ use super::links::Links;
 use super::list::{Call, Told};
 use super::random::Random;
 
-const DOORS: usize = 24;
+use door_link::DOORS;
 
 /// What is left of a list: the calls of this door, and each *erase*.
 pub fn strike(door: usize, list: &[Call]) -> Vec<Call> {

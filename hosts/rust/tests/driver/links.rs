@@ -11,7 +11,7 @@ use super::options::{bare, broken, damaged, made_up, wrap, Quote};
 use super::random::Random;
 use super::seen::{halves, unseen, Seen};
 
-pub(super) const DOORS: usize = 24;
+pub(super) use door_link::DOORS;
 pub(super) const KNOWN: [u8; 4] = [0x21, 0x22, 0x23, 0x24];
 /// How many calls before a difference are shown.
 const SHOWN: usize = 16;

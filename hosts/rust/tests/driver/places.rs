@@ -109,7 +109,7 @@ pub fn unit<R: Unit, T: Unit>(reference: R, tested: T) -> Result<Counts, String>
     let mut pair = Pair::new(reference, tested);
     for Broken { place, kind, area } in broken([2, 8, 0x45, 0xff].into_iter()) {
         let cause = Cause::unreadable(place, kind);
-        let door = usize::from(place) % 24;
+        let door = usize::from(place) % door_link::DOORS;
         for course in courses(door, &area) {
             let mut last = None;
             for call in course {

@@ -1,11 +1,11 @@
-//! The unit: 24 doors and one pool of 96 rows, the lowest free row first (document 01, "Records").
+//! The unit: all doors and one pool of rows, the lowest free row first (document 01, "Records").
 
 use super::door::{Answer, Door, Offer};
 use super::records::known;
 use crate::driver::calls::{DoorRecords, Record, Reply, Unit};
 
-pub const DOORS: usize = 24;
-pub const ROWS: usize = 96;
+pub use door_link::{DOORS, ROWS};
+
 pub const EACH: usize = 4;
 
 #[derive(Clone, Debug)]
@@ -240,18 +240,18 @@ mod tests {
     }
 
     #[test]
-    fn doors_23_and_24_and_the_fifth_record() {
+    fn the_last_door_and_the_fifth_record() {
         let mut unit = Model::new();
-        assert_eq!(unit.count(23), Reply::Count(0));
-        assert_eq!(unit.close(24), Reply::Refused(1));
+        assert_eq!(unit.count(DOORS - 1), Reply::Count(0));
+        assert_eq!(unit.close(DOORS), Reply::Refused(1));
         assert_eq!(unit.count(usize::MAX), Reply::Refused(1));
         for n in 0..4 {
-            assert_eq!(store(&mut unit, 23, &numbered(n)), Reply::Done);
+            assert_eq!(store(&mut unit, DOORS - 1, &numbered(n)), Reply::Done);
         }
-        assert_eq!(store(&mut unit, 23, &numbered(9)), Reply::Refused(6));
-        assert_eq!(store(&mut unit, 23, &numbered(0)), Reply::Refused(6));
-        assert_eq!(unit.count(23), Reply::Count(4));
-        assert_eq!(store(&mut unit, 24, &numbered(0)), Reply::Refused(1));
+        assert_eq!(store(&mut unit, DOORS - 1, &numbered(9)), Reply::Refused(6));
+        assert_eq!(store(&mut unit, DOORS - 1, &numbered(0)), Reply::Refused(6));
+        assert_eq!(unit.count(DOORS - 1), Reply::Count(4));
+        assert_eq!(store(&mut unit, DOORS, &numbered(0)), Reply::Refused(1));
     }
 
     #[test]
@@ -365,7 +365,7 @@ mod tests {
         let mut unit = Model::new();
         let out = &mut [0; 40][..];
         assert_eq!(
-            unit.offer(24, 2, false, true, &[], true, &[0; 9], out),
+            unit.offer(DOORS, 2, false, true, &[], true, &[0; 9], out),
             Reply::Refused(1)
         );
         assert_eq!(

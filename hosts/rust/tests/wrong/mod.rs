@@ -8,6 +8,7 @@ use crate::driver::links::Links;
 use crate::driver::list::{Call, Told};
 use crate::driver::seen::halves;
 use crate::model::Model;
+use door_link::DOORS;
 
 /// What such a unit does with a call; the model does the rest.
 type Ways = fn(&mut Model, Call) -> Told;
@@ -256,7 +257,7 @@ fn forgets_any_tep(unit: &mut Model, call: Call) -> Told {
 fn puts_back(unit: &mut Model, call: Call) -> Told {
     let mut back = None;
     if let Call::Close {
-        door: door @ 0..=23,
+        door: door @ 0..DOORS,
     } = call
     {
         back = unit
@@ -299,7 +300,7 @@ fn any_syn(unit: &mut Model, call: Call) -> Told {
 /// Searches the whole pool for a half, so that one door resumes another's session record.
 fn searches_pool(unit: &mut Model, call: Call) -> Told {
     if let Call::Answer { door, area, .. } = &call {
-        for other in (0..24).filter(|other| *door < 24 && other != door) {
+        for other in (0..DOORS).filter(|other| *door < DOORS && other != door) {
             let held = unit
                 .records(other)
                 .map_or(Vec::new(), |records| records.held);
@@ -322,7 +323,7 @@ fn tells_of_others(unit: &mut Model, call: Call) -> Told {
     if let (Call::Answer { door, .. }, Reply::Plain(Cause { reason: 6, .. })) = (&call, told.reply)
     {
         let full = |other| unit.records(other).is_some_and(|r| r.held.len() == 4);
-        if (0..24).any(|other| other != *door && full(other)) {
+        if (0..DOORS).any(|other| other != *door && full(other)) {
             told.reply = Reply::Plain(Cause::bare(5));
         }
     }
@@ -333,7 +334,7 @@ fn tells_of_others(unit: &mut Model, call: Call) -> Told {
 fn passes_bytes_on(unit: &mut Model, call: Call) -> Told {
     let mut told = call.on(unit);
     if let (Call::Resend { door, .. }, Reply::Written(length)) = (&call, told.reply) {
-        let others = (0..24).filter(|other| other != door);
+        let others = (0..DOORS).filter(|other| other != door);
         let held = others.flat_map(|other| unit.records(other).map(|r| r.held.len()));
         if let Some(byte) = told.buffer[..length].last_mut() {
             *byte ^= held.sum::<usize>() as u8;
