@@ -9,7 +9,8 @@ use lib.ListN.{length, getD, set, length-set, replicate}
 use Rattle.eno.specs.Walk.{end, fault, item, Reading, readable, faulty, before, itemsOf}
 use Rattle.eno.specs.Suboption.{Sent, Suboption, global, tep, suboptionAt, suboptions, globals, globalByte, roleBit, awareBit, teps, name}
 use Rattle.eno.specs.Laws.Walk.{unroll-end, unroll-fault, unroll-item}
-use Rattle.eno.specs.Laws.Suboption.{SuboptionCase, a-global, a-bare, to-end, a-counted, suboption-case, suboption-onward}
+use Rattle.eno.specs.Laws.Suboption.{suboption-onward}
+use Rattle.suboption.specs.Within.{tep-ends}
 use Rattle.suboptions.specs.Summary.{never, again, entriesFrom, entriesOf, illFormed, summed, summaryOf}
 use Rattle.suboptions.specs.Laws.{summary-within}
 use Rattle.suboptions.specs.declared.Entry.{Entry}
@@ -86,21 +87,11 @@ module _ (o : List ℕ) where
           go (readable l) = rw t
 
     module _ {x : Sent} {j : ℕ} (e : suboptionAt o i ≡ item (tep x) j) where
-      -- its data ends at the next place
-      told-ends : x .start + x .len ≡ j
-      told-ends = go (suboption-case o i (tep x) j e)
-        where
-          go : SuboptionCase o i (tep x) j → x .start + x .len ≡ j
-          go (a-global h g ex ej) = let z : _≡_ {A = ℕ} 0 1 = cc in absurd (omega arith)
-          go (a-bare h g t ex ej) = let s : x .start ≡ i + 1 = cc in let l : x .len ≡ 0 = cc in omega arith
-          go (to-end h r ex ej) = let s : x .start ≡ i + 1 = cc in let l : x .len ≡ length o - (i + 1) = cc in omega arith
-          go (a-counted n low high y en fits ex ej) = let s : x .start ≡ i + 2 = cc in let l : x .len ≡ n = cc in omega arith
-
-      -- so its start and its length are single bytes
+      -- its data ends at the next place, so its start and its length are single bytes
       pub told-fits : x .start + x .len ≤ 255
       told-fits =
           let w = told-onward e in
-          let q = told-ends in
+          let q = tep-ends o i x j e in
           omega (arith, k .short)
 
       -- one more TEP, by what it does to the entries

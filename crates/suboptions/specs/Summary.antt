@@ -4,20 +4,11 @@ use mathlib.Core.List.{List, [], _∷_}
 use mathlib.Core.Bool.{Bool, true, false, cond}
 use lib.Dec.{eqb, ltb}
 use lib.ListN.{length, replicate}
-use Rattle.eno.specs.Walk.{Piece, end, fault, item, Reading, readable, faulty}
-use Rattle.eno.specs.Suboption.{Sent, Suboption, global, tep, suboptions, roleBit, awareBit, teps}
+use Rattle.eno.specs.Walk.{Reading, readable, faulty}
+use Rattle.eno.specs.Suboption.{Sent, Suboption, suboptions, roleBit, awareBit, teps}
 use Rattle.eno.specs.Judge.{named}
-use Rattle.suboptions.specs.declared.SuboptionAt.{SuboptionAt}
-use Rattle.suboptions.specs.declared.SuboptionAt.the-variants as at
 use Rattle.suboptions.specs.declared.Entry.{Entry}
 use Rattle.suboptions.specs.declared.Summary.{Summary}
-
--- what stands at a place
-abbrev pub pieceOf : SuboptionAt → Piece (Unit {0}) Suboption
-pieceOf at.End = end
-pieceOf at.IllFormed = fault tt
-pieceOf (at.Global b j) = item (global b) j
-pieceOf (at.Tep c b i n j) = item (tep (record { counted = c; byte = b; start = i; len = n })) j
 
 -- never sent
 abbrev pub never : Entry

@@ -1,77 +1,8 @@
 // The suboptions of an ENO option, read in one walk for all TEPs that the unit knows.
+use suboption::SuboptionAt;
 ghost use mathlib.Core.Path.{_≡_};
-ghost use Rattle.eno.specs.Suboption.{suboptionAt};
 ghost use Rattle.eno.specs.Judge.{isFresh, isBad};
-ghost use Rattle.suboptions.specs.Summary.{pieceOf, never, asSent, illFormed, summaryOf};
-
-// What stands at a place of an option.
-enum SuboptionAt {
-    End,
-    IllFormed,
-    Global {
-        byte: u8,
-        next: usize,
-    },
-    Tep {
-        counted: bool,
-        byte: u8,
-        start: usize,
-        len: usize,
-        next: usize,
-    },
-}
-
-fn suboption_at(option: &[u8], i: usize) -> SuboptionAt
-    ensures { λ r. ⌜ pieceOf r ≡ suboptionAt (now (option .entry)) i ⌝ }
-{
-    if option.len() <= i {
-        return SuboptionAt::End;
-    }
-    let x = option[i];
-    let j = i + 1;
-    if x < 0x20 {
-        return SuboptionAt::Global { byte: x, next: j };
-    }
-    if x < 0x80 {
-        return SuboptionAt::Tep {
-            counted: false,
-            byte: x,
-            start: j,
-            len: 0,
-            next: j,
-        };
-    }
-    if 0xa0 <= x {
-        let len = option.len() - j;
-        return SuboptionAt::Tep {
-            counted: false,
-            byte: x,
-            start: j,
-            len,
-            next: option.len(),
-        };
-    }
-    if option.len() <= j {
-        return SuboptionAt::IllFormed;
-    }
-    let y = option[j];
-    if y < 0xa0 {
-        return SuboptionAt::IllFormed;
-    }
-    let k = j + 1;
-    let n = (x as usize) - 0x7f;
-    if option.len() - k < n {
-        return SuboptionAt::IllFormed;
-    }
-    let next = k + n;
-    SuboptionAt::Tep {
-        counted: true,
-        byte: y,
-        start: k,
-        len: n,
-        next,
-    }
-}
+ghost use Rattle.suboptions.specs.Summary.{never, asSent, illFormed, summaryOf};
 
 // How often a TEP was sent, and of the last time its byte with v and where its data stands in the option; single bytes, since an option has at most 255.
 pub struct Entry {
@@ -145,7 +76,7 @@ pub fn summarize(option: &[u8]) -> Summary
     let mut first = true;
     let mut global: u8 = 0;
     loop {
-        let p = suboption_at(option, i);
+        let p = suboption::suboption_at(option, i);
         match p {
             SuboptionAt::End => {
                 return Summary {

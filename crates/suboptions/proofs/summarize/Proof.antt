@@ -6,7 +6,8 @@ use borrow.Author.Needs.{needs}
 use lib.ListN.{length}
 use Rattle.eno.specs.Walk.{item}
 use Rattle.eno.specs.Suboption.{suboptionAt, tep}
-use Rattle.suboptions.specs.Summary.{pieceOf, again}
+use Rattle.suboption.specs.Piece.{pieceOf}
+use Rattle.suboptions.specs.Summary.{again}
 use Rattle.suboptions.specs.Laws.{summary-beyond}
 use Rattle.suboptions.proofs.Told.{Told, told-start, told-onward, told-fits, told-global, told-global-again, told-unknown, told-known, told-ill-formed, told-end}
 use Rattle.suboptions.proofs.summarize.Statement.{statement}

@@ -2,8 +2,8 @@
 use native.Mathlib.Omega.{arith}
 use Rattle.eno.specs.Laws.Suboption.{suboption-end, suboption-global, suboption-bare, suboption-to-end, suboption-no-tep, suboption-cut, suboption-over, suboption-counted}
 use borrow.Author.Needs.{needs}
-use Rattle.suboptions.proofs.suboption_at.Statement.{statement}
-use Rattle.suboptions.proofs.suboption_at.Tie as tie
+use Rattle.suboption.proofs.suboption_at.Statement.{statement}
+use Rattle.suboption.proofs.suboption_at.Tie as tie
 
 returns : tie.Need-returns
 returns c = suboption-end _ _ (omega arith)
