@@ -10,18 +10,10 @@ use Rattle.eno.specs.Suboption.{Sent, Suboption, tep, suboptionAt, suboptions}
 use Rattle.eno.specs.Laws.Walk.{unroll-end, unroll-fault, unroll-item}
 use Rattle.eno.specs.Laws.Suboption.{suboption-onward}
 use Rattle.suboption.specs.Within.{tep-ends}
-use Rattle.suboption_list.specs.List.{mostItems, itemOf, filler, arrayOf, listWith, brokenList, listedOf, listOf}
-use Rattle.suboption_list.specs.Laws.{array-more, list-within}
+use Rattle.suboption_list.specs.List.{mostItems, itemOf, filler, arrayOf, listAs, listWith, brokenList, listedOf, listOf}
+use Rattle.suboption_list.specs.Laws.{append-nil, append-one, array-more, list-within}
 use Rattle.suboption_list.specs.declared.SuboptionItem.{SuboptionItem}
 use Rattle.suboption_list.specs.declared.SuboptionList.{SuboptionList}
-
-append-nil : (l : List Suboption) → l ++ [] ≡ l
-append-nil [] = refl
-append-nil (x ∷ l) = ap (λ r. x ∷ r) (append-nil l)
-
-append-one : (l : List Suboption) (x : Suboption) (m : List Suboption) → (l ++ x ∷ []) ++ m ≡ l ++ x ∷ m
-append-one [] x m = refl
-append-one (y ∷ l) x m = ap (λ r. y ∷ r) (append-one l x m)
 
 -- suboptions that were met before the rest
 abbrev after : List Suboption → Reading (Unit {0}) Suboption → Reading (Unit {0}) Suboption
@@ -35,9 +27,6 @@ after-none (faulty f) = refl
 after-one : (done : List Suboption) (x : Suboption) (r : Reading (Unit {0}) Suboption) → after (done ++ x ∷ []) r ≡ after done (before x r)
 after-one done x (readable l) = ap readable (append-one done x l)
 after-one done x (faulty f) = refl
-
-abbrev pub listAs : ℕ → List SuboptionItem → SuboptionList
-listAs n items = record { «ill_formed» = false; count = n; items = items }
 
 module _ (o : List ℕ) where
   pub record Listing (array : List SuboptionItem) (count i : ℕ) : Type 0 where

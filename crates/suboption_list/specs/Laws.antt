@@ -41,6 +41,15 @@ pub list-back : (l : List Suboption) → length l ≤ mostItems → itemsIn (lis
 unfolding itemsIn listWith arrayOf
 list-back l h = ap (λ n. itemsFrom (map itemOf l ++ replicate (mostItems - length l) filler) n 0) (count-within (length l) h) ∙ items-back l _
 
+-- nothing behind a list, and one more
+pub append-nil : (l : List Suboption) → l ++ [] ≡ l
+append-nil [] = refl
+append-nil (x ∷ l) = ap (λ r. x ∷ r) (append-nil l)
+
+pub append-one : (l : List Suboption) (x : Suboption) (m : List Suboption) → (l ++ x ∷ []) ++ m ≡ l ++ x ∷ m
+append-one [] x m = refl
+append-one (y ∷ l) x m = ap (λ r. y ∷ r) (append-one l x m)
+
 -- one more suboption, put behind the last
 put-behind : (l : List Suboption) (x : Suboption) (n : ℕ) → set (map itemOf l ++ replicate (suc n) filler) (length l) (itemOf x) ≡ map itemOf (l ++ x ∷ []) ++ replicate n filler
 put-behind [] x n = refl

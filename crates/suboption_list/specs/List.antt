@@ -50,8 +50,11 @@ itemsIn l = itemsFrom (l .items) (countOf (l .count)) 0
 unfoldable pub arrayOf : List Suboption → List SuboptionItem
 arrayOf l = map itemOf l ++ replicate (mostItems - length l) filler
 
+abbrev pub listAs : ℕ → List SuboptionItem → SuboptionList
+listAs n items = record { «ill_formed» = false; count = n; items = items }
+
 unfoldable pub listWith : List Suboption → SuboptionList
-listWith l = record { «ill_formed» = false; count = length l; items = arrayOf l }
+listWith l = listAs (length l) (arrayOf l)
 
 abbrev pub brokenList : SuboptionList
 brokenList = record { «ill_formed» = true; count = 0; items = replicate mostItems filler }

@@ -6,7 +6,8 @@ use borrow.Author.Tests.{not-true, not-false}
 use borrow.Author.Needs.{needs}
 use Rattle.eno.specs.Suboption.{globalByte}
 use Rattle.suboption_list.specs.List.{mostItems, itemsIn}
-use Rattle.suboption_list.proofs.Questions.{at, left, left-all, left-item, left-end, left-most, global-here, global-next, global-none}
+use Rattle.suboption_list.specs.Left.{at, left, left-all, left-item, left-end, left-most}
+use Rattle.suboption_list.proofs.Questions.{global-here, global-next, global-none}
 use Rattle.suboption_list.proofs.first_global.Statement.{statement}
 use Rattle.suboption_list.proofs.first_global.Tie as tie
 

@@ -6,7 +6,8 @@ use borrow.Author.Needs.{needs}
 use Rattle.eno.specs.Suboption.{teps}
 use Rattle.eno.specs.Judge.{named}
 use Rattle.suboption_list.specs.List.{mostItems, itemsIn, firstItem}
-use Rattle.suboption_list.proofs.Questions.{at, left, left-all, left-item, left-end, left-most, first-here, first-next, first-none}
+use Rattle.suboption_list.specs.Left.{at, left, left-all, left-item, left-end, left-most}
+use Rattle.suboption_list.proofs.Questions.{first-here, first-next, first-none}
 use Rattle.suboption_list.proofs.first_named.Statement.{statement}
 use Rattle.suboption_list.proofs.first_named.Tie as tie
 

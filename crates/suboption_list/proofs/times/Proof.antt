@@ -7,7 +7,8 @@ use lib.ListN.{length}
 use Rattle.eno.specs.Suboption.{teps}
 use Rattle.eno.specs.Judge.{named}
 use Rattle.suboption_list.specs.List.{mostItems, itemsIn}
-use Rattle.suboption_list.proofs.Questions.{at, left, left-all, left-item, left-end, left-most, at-most-one, times-next, times-end}
+use Rattle.suboption_list.specs.Left.{at, left, left-all, left-item, left-end, left-most}
+use Rattle.suboption_list.proofs.Questions.{at-most-one, times-next, times-end}
 use Rattle.suboption_list.proofs.times.Statement.{statement}
 use Rattle.suboption_list.proofs.times.Tie as tie
 
