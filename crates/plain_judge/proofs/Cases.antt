@@ -10,7 +10,7 @@ use lib.ListN.{length}
 use Rattle.eno.specs.Area.{finding, partOf}
 use Rattle.eno.specs.Cause.{numbered}
 use Rattle.eno.specs.Suboption.{suboptions, isIllFormed, globalByte, roleBit, awareBit, teps}
-use Rattle.eno.specs.Judge.{Way, ofA, ofB, Judged, plain, validity, agreed, negotiate, roleOf, awareOf, tepsOf, judge}
+use Rattle.eno.specs.Judge.{ofA, ofB, Judged, plain, validity, negotiate, roleOf, awareOf, tepsOf, judge}
 use Rattle.eno.specs.Laws.Found.{found-short}
 use Rattle.eno.specs.Laws.Tests.{aware-or-not}
 use Rattle.eno.specs.declared.SessionRecord.{SessionRecord}

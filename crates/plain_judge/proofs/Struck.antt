@@ -2,17 +2,16 @@
 use Prim.Native.Nat.{ℕ, suc, _+_, _-_, _≤_, _<_, _%_}
 use mathlib.Core.Path.{_≡_, refl, sym, _∙_, ap, ap₂}
 use mathlib.Core.List.{List, [], _∷_, _++_, map}
-use mathlib.Core.Bool.{Bool, true, false, cond, _&&_, false≢true}
+use mathlib.Core.Bool.{Bool, true, false, cond, false≢true}
 use mathlib.Core.Option.{Option, none, some}
 use native.Mathlib.Omega.{arith}
 use borrow.Author.Tests.{ne-eqb}
-use lib.Dec.{eqb}
 use lib.ListN.{length, getD, set, replicate, length-append}
-use Rattle.eno.specs.Suboption.{Sent, Suboption, global, tep, name, teps}
+use Rattle.eno.specs.Suboption.{Sent, Suboption, tep, teps}
 use Rattle.eno.specs.Judge.{Way, orElse}
 use Rattle.suboption_list.specs.List.{mostItems, itemOf, filler, sentOf, suboptionOf, countOf, itemsIn, arrayOf, listAs, listWith, listOf, lastItem}
 use Rattle.suboption_list.specs.Laws.{count-within, append-nil, append-one, array-more}
-use Rattle.suboption_list.specs.Left.{at, left, left-all, left-item, is-global, is-tep, as-sent}
+use Rattle.suboption_list.specs.Left.{at, left, left-all, left-item, as-sent}
 use Rattle.suboption_list.specs.declared.SuboptionItem.{SuboptionItem}
 use Rattle.suboption_list.specs.declared.SuboptionList.{SuboptionList}
 use Rattle.plain_validity.specs.Validity.{wayAs}

@@ -5,7 +5,7 @@ use mathlib.Core.List.{List, [], _∷_}
 use mathlib.Core.Bool.{Bool, true, false, cond}
 use mathlib.Core.Option.{Option, none, some}
 use Rattle.eno.specs.Suboption.{Sent, name}
-use Rattle.eno.specs.Judge.{Way, ofB, Sides, tepsOf, validity, Negotiated, negotiatedBy, orElse, lastValid, Judged, agreed, negotiate}
+use Rattle.eno.specs.Judge.{Way, ofB, Sides, tepsOf, validity, Negotiated, negotiatedBy, orElse, lastValid, agreed, negotiate}
 
 -- valid in some way
 abbrev pub isValid : Option Way → Bool

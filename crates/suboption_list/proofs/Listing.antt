@@ -2,7 +2,6 @@
 use Prim.Native.Nat.{ℕ, _+_, _≤_, _<_}
 use mathlib.Core.Path.{_≡_, refl, sym, _∙_, ap, ap₂}
 use mathlib.Core.List.{List, [], _∷_, _++_}
-use mathlib.Core.Bool.{false}
 use native.Mathlib.Omega.{arith}
 use lib.ListN.{length, set, replicate, length-append}
 use Rattle.eno.specs.Walk.{end, fault, item, Reading, readable, faulty, before, itemsOf}
@@ -13,7 +12,6 @@ use Rattle.suboption.specs.Within.{tep-ends}
 use Rattle.suboption_list.specs.List.{mostItems, itemOf, filler, arrayOf, listAs, listWith, brokenList, listedOf, listOf}
 use Rattle.suboption_list.specs.Laws.{append-nil, append-one, array-more, list-within}
 use Rattle.suboption_list.specs.declared.SuboptionItem.{SuboptionItem}
-use Rattle.suboption_list.specs.declared.SuboptionList.{SuboptionList}
 
 -- suboptions that were met before the rest
 abbrev after : List Suboption → Reading (Unit {0}) Suboption → Reading (Unit {0}) Suboption

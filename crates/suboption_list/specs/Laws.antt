@@ -1,18 +1,15 @@
 -- What a list in an array says: the list of an option has all its suboptions, and what is put behind the last is listed last. Assumes nothing.
 use Prim.Native.Nat.{ℕ, zero, suc, _+_, _-_, _≤_, _<_}
-use mathlib.Core.Path.{_≡_, refl, sym, _∙_, ap, ap₂}
+use mathlib.Core.Path.{_≡_, refl, _∙_, ap, ap₂}
 use mathlib.Core.List.{List, [], _∷_, _++_, map}
-use mathlib.Core.Bool.{true, false}
 use native.Mathlib.Omega.{arith}
-use native.Mathlib.Decide.{decLt}
 use borrow.Author.Tests.{lt-ltb, le-ltb}
 use lib.ListN.{length, getD, set, replicate, length-append}
 use Rattle.eno.specs.Walk.{Piece, end, fault, item, Reading, readable, faulty, before, listed, items, itemsOf}
-use Rattle.eno.specs.Suboption.{Sent, Suboption, global, tep, suboptionAt, suboptions, isIllFormed}
+use Rattle.eno.specs.Suboption.{Suboption, global, tep, suboptionAt, suboptions, isIllFormed}
 use Rattle.eno.specs.Laws.Suboption.{suboption-onward}
 use Rattle.suboption_list.specs.List.{mostItems, itemOf, filler, suboptionOf, itemsFrom, countOf, itemsIn, arrayOf, listWith, brokenList, listedOf, listOf}
 use Rattle.suboption_list.specs.declared.SuboptionItem.{SuboptionItem}
-use Rattle.suboption_list.specs.declared.SuboptionList.{SuboptionList}
 
 pub count-within : (n : ℕ) → n ≤ mostItems → countOf n ≡ n
 unfolding countOf

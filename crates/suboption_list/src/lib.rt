@@ -3,10 +3,9 @@ use suboption::SuboptionAt;
 ghost use mathlib.Core.Path.{_≡_};
 ghost use mathlib.Core.Bool.{cond};
 ghost use lib.ListN.{length};
-ghost use Rattle.eno.specs.Suboption.{globalByte, teps};
+ghost use Rattle.eno.specs.Suboption.{global, globalByte, teps};
 ghost use Rattle.eno.specs.Judge.{named};
-ghost use Rattle.suboption_list.specs.List.{itemOf, filler, isNamed, itemsIn, brokenList, listOf, firstItem, lastItem};
-ghost use Rattle.eno.specs.Suboption.{global};
+ghost use Rattle.suboption_list.specs.List.{itemOf, isNamed, itemsIn, brokenList, listOf, firstItem, lastItem};
 
 // An option of 40 bytes has 38 bytes for suboptions.
 pub const MOST: usize = 38;

@@ -1,10 +1,7 @@
 -- `negotiate` meets its contract.
-use mathlib.Core.Path.{_≡_, refl, sym, _∙_, ap}
+use mathlib.Core.Path.{_∙_}
 use native.Mathlib.Omega.{arith}
-use Rattle.eno.specs.Suboption.{teps}
-use Rattle.eno.specs.Session.{inHand}
 use Rattle.judgement.specs.Laws.Found.{short-a, short-b}
-use Rattle.suboption_list.specs.List.{itemsIn}
 use Rattle.plain_judge.proofs.Struck.{last-is, none-left, struck-of}
 use Rattle.plain_judge.proofs.Concluding.{negotiated-none, negotiated-some}
 use borrow.Author.Needs.{needs}

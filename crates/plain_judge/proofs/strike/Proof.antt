@@ -1,6 +1,6 @@
 -- `strike` meets its contract: the loop's invariant is `Struck`.
 use Prim.Native.Nat.{_-_}
-use mathlib.Core.Path.{_≡_, refl, sym, _∙_, ap}
+use mathlib.Core.Path.{refl}
 use native.Mathlib.Omega.{arith}
 use Rattle.eno.specs.Suboption.{teps}
 use Rattle.eno.specs.Session.{inHand}

@@ -1,5 +1,5 @@
 -- `half_stands` meets its contract.
-use mathlib.Core.Path.{_≡_, refl, sym, _∙_, ap}
+use mathlib.Core.Path.{_≡_, refl, _∙_}
 use native.Mathlib.Omega.{arith}
 use Rattle.plain_validity.proofs.Halves.{half-at}
 use lib.ListN.{length}

@@ -1,9 +1,8 @@
 -- `first_global` meets its contract: the first global byte of what is left is that of the list.
 use Prim.Native.Nat.{_+_, _-_}
-use mathlib.Core.Path.{_≡_, refl, sym, _∙_, ap}
+use mathlib.Core.Path.{_≡_, _∙_, ap}
 use native.Mathlib.Omega.{arith}
 use borrow.Author.Tests.{not-true, not-false}
-use borrow.Author.Needs.{needs}
 use Rattle.eno.specs.Suboption.{globalByte}
 use Rattle.suboption_list.specs.List.{mostItems, itemsIn}
 use Rattle.suboption_list.specs.Left.{at, left, left-all, left-item, left-end, left-most}

@@ -1,12 +1,12 @@
 -- `first_named` meets its contract: the first of that name in what is left is that of the list.
 use Prim.Native.Nat.{_-_}
-use mathlib.Core.Path.{_≡_, refl, sym, _∙_, ap}
+use mathlib.Core.Path.{_≡_, _∙_, ap}
 use native.Mathlib.Omega.{arith}
 use borrow.Author.Needs.{needs}
 use Rattle.eno.specs.Suboption.{teps}
 use Rattle.eno.specs.Judge.{named}
 use Rattle.suboption_list.specs.List.{mostItems, itemsIn, firstItem}
-use Rattle.suboption_list.specs.Left.{at, left, left-all, left-item, left-end, left-most}
+use Rattle.suboption_list.specs.Left.{left, left-all, left-item, left-end, left-most}
 use Rattle.suboption_list.proofs.Questions.{first-here, first-next, first-none}
 use Rattle.suboption_list.proofs.first_named.Statement.{statement}
 use Rattle.suboption_list.proofs.first_named.Tie as tie

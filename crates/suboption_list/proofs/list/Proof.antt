@@ -1,5 +1,5 @@
 -- `list` meets its contract: the loop's invariant is `Listing`, and each way through the loop is one of its laws.
-use Prim.Native.Nat.{_+_, _-_}
+use Prim.Native.Nat.{_-_}
 use mathlib.Core.Path.{_≡_, refl, sym, _∙_, ap}
 use native.Mathlib.Omega.{arith}
 use borrow.Author.Needs.{needs}

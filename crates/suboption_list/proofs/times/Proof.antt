@@ -1,13 +1,13 @@
 -- `times` meets its contract: what was counted and what is left to count are all.
 use Prim.Native.Nat.{_+_, _-_, _≤_}
-use mathlib.Core.Path.{_≡_, refl, sym, _∙_, ap}
+use mathlib.Core.Path.{_≡_, _∙_, ap}
 use native.Mathlib.Omega.{arith}
 use borrow.Author.Needs.{needs}
 use lib.ListN.{length}
 use Rattle.eno.specs.Suboption.{teps}
 use Rattle.eno.specs.Judge.{named}
 use Rattle.suboption_list.specs.List.{mostItems, itemsIn}
-use Rattle.suboption_list.specs.Left.{at, left, left-all, left-item, left-end, left-most}
+use Rattle.suboption_list.specs.Left.{left, left-all, left-item, left-end, left-most}
 use Rattle.suboption_list.proofs.Questions.{at-most-one, times-next, times-end}
 use Rattle.suboption_list.proofs.times.Statement.{statement}
 use Rattle.suboption_list.proofs.times.Tie as tie
