@@ -79,6 +79,8 @@ static void other_nulls(size_t n) {
     EXPECT(says(judged.reply, DOOR_LINK_PLAIN, DOOR_LINK_NO_OPTION) && zeros(judged.transcript, sizeof judged.transcript));
     EXPECT(says(door_link_judge(option, 4, NULL, n, false, none).reply, DOOR_LINK_PLAIN, DOOR_LINK_NO_OPTION));
     EXPECT(says(door_link_judge(NULL, n, NULL, n, false, none).reply, DOOR_LINK_PLAIN, DOOR_LINK_NO_OPTION));
+    EXPECT(says(door_link_judge_plainly(NULL, n, option, 4, false, none).reply, DOOR_LINK_PLAIN, DOOR_LINK_NO_OPTION));
+    EXPECT(says(door_link_judge_plainly(option, 4, NULL, n, false, none).reply, DOOR_LINK_PLAIN, DOOR_LINK_NO_OPTION));
 }
 
 /* The questions, over every kind with the numbers of all others: no number is taken for another kind's. */
