@@ -300,7 +300,7 @@ int main(void) {
     memset(&unit, 0xee, sizeof unit);
     door_link_unit_erase(&unit);
     EXPECT(all_zero((const uint8_t *)&unit, sizeof unit));
-    EXPECT(door_link_abi_4() == DOOR_LINK_ABI && door_link_unit_size() == sizeof unit);
+    EXPECT(door_link_abi_5() == DOOR_LINK_ABI && door_link_unit_size() == sizeof unit);
 
     /* The second record's row, and its number at the door. */
     EXPECT(door_link_unit_store(&unit, OTHER, 0x23, 0, identifier, 18, secret, 32).kind == DOOR_LINK_DONE);

@@ -164,7 +164,7 @@ static void without_pointers(void) {
     EXPECT(!door_link_is_owed(g) && door_link_send(g, false).kind == DOOR_LINK_SENT && door_link_receive_frame(g, true).number == 1);
     EXPECT(door_link_generations_initiate(&g, true, false).number == 1 && door_link_generations_receive(&g, true).number == 1);
     EXPECT(door_link_generations_send(&g, true).number == 1 && g.fin && door_link_initiate(g, true, false).number == DOOR_LINK_FINISHED);
-    EXPECT(door_link_abi_4() == DOOR_LINK_ABI && door_link_unit_size() == DOOR_LINK_UNIT);
+    EXPECT(door_link_abi_5() == DOOR_LINK_ABI && door_link_unit_size() == DOOR_LINK_UNIT);
 }
 
 int main(void) {
