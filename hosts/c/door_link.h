@@ -83,8 +83,8 @@ extern "C" {
 #endif
 
 /* The number of this header. Each change of a struct, of an export or of a number raises it, and the library exports one name that carries its own,
- * door_link_abi_4. The inline functions refer to the name with the header's number, so a program that was compiled with another header does not link. */
-#define DOOR_LINK_ABI 4
+ * door_link_abi_5. The inline functions refer to the name with the header's number, so a program that was compiled with another header does not link. */
+#define DOOR_LINK_ABI 5
 
 enum {
     DOOR_LINK_DOORS = 48,       /* doors are 0 to DOOR_LINK_DOORS - 1 */
@@ -278,8 +278,8 @@ struct door_link_reply door_link_forget(uint32_t *marks, uint8_t (*rows)[DOOR_LI
 struct door_link_reply door_link_count(const uint32_t *marks, const uint8_t (*rows)[DOOR_LINK_ROW_BYTES], const uint8_t (*doors)[DOOR_LINK_DOOR_BYTES],
                                        size_t door);
 
-/* Gives 4. It is there for its name: see DOOR_LINK_ABI. */
-size_t door_link_abi_4(void);
+/* Gives 5. It is there for its name: see DOOR_LINK_ABI. */
+size_t door_link_abi_5(void);
 
 /* The bytes of a unit, DOOR_LINK_UNIT, for hosts that do not compile this header. */
 size_t door_link_unit_size(void);

@@ -285,7 +285,7 @@ static inline struct door_link_generation_step door_link_generations_receive(str
     return step;
 }
 
-/* ---- The judge: for captures, diagnosis and benchmarks. A door's calls use it inside. ---- */
+/* ---- The two judges: for captures, diagnosis and benchmarks. A door's calls use the first inside. ---- */
 
 /* A session record, as door_link_unit_store takes it. */
 struct door_link_session {
@@ -317,6 +317,18 @@ static inline struct door_link_judgement door_link_judge(const uint8_t *own_area
     door_link_abi();
     return door_link_raw_judge(door_link_bytes(own_area), door_link_length(own_area, own_length), door_link_bytes(peer_area),
                                door_link_length(peer_area, peer_length), mandatory, hand);
+}
+
+/* The same by the plain judge, which lists all suboptions, strikes the ones not valid and takes the last; slower. That both say the same of every two areas
+ * is proved. */
+struct door_link_judgement door_link_raw_judge_plainly(const uint8_t *own_area, size_t own_length, const uint8_t *peer_area, size_t peer_length, bool mandatory,
+                                                       struct door_link_hand hand) __asm__("door_link_judge_plainly");
+static inline __typeof__(door_link_raw_judge_plainly) door_link_judge_plainly __asm__("door_link_or_null_judge_plainly");
+static inline struct door_link_judgement door_link_judge_plainly(const uint8_t *own_area, size_t own_length, const uint8_t *peer_area, size_t peer_length,
+                                                                 bool mandatory, struct door_link_hand hand) {
+    door_link_abi();
+    return door_link_raw_judge_plainly(door_link_bytes(own_area), door_link_length(own_area, own_length), door_link_bytes(peer_area),
+                                       door_link_length(peer_area, peer_length), mandatory, hand);
 }
 
 #ifdef __cplusplus

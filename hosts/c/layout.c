@@ -173,7 +173,17 @@ static void generations(void) {
     EXPECT(step.kind == DOOR_LINK_REFUSED && step.number == DOOR_LINK_UNANSWERED && has(step.next, 0x0506, 0x0304, 0x0506, false));
 }
 
-/* The judge: the session of the case R, resumed and not. */
+/* What the two judges say, which is the same. */
+static struct door_link_judgement judged(const uint8_t *own, size_t own_length, const uint8_t *peer, size_t peer_length, bool mandatory, struct door_link_hand hand) {
+    struct door_link_judgement says = door_link_judge(own, own_length, peer, peer_length, mandatory, hand);
+    struct door_link_judgement also = door_link_judge_plainly(own, own_length, peer, peer_length, mandatory, hand);
+    EXPECT(says.reply.number == also.reply.number && says.reply.kind == also.reply.kind && says.reply.role == also.reply.role && says.reply.tep == also.reply.tep);
+    EXPECT(says.reply.resumed == also.reply.resumed && says.reply.place == also.reply.place && says.reply.option == also.reply.option);
+    EXPECT(memcmp(says.transcript, also.transcript, sizeof says.transcript) == 0);
+    return says;
+}
+
+/* The judges: the session of the case R, resumed and not. */
 static void judgement(void) {
     uint8_t own[13] = {0x45, 0x0d, 0x21, 0xa3}, peer[13] = {0x45, 0x0d, 0x01, 0xa3};
     struct door_link_hand hand = {.held = true, .session = {.tep = 0x23, .role = 0}};
@@ -181,19 +191,19 @@ static void judgement(void) {
     count_up(hand.session.secret, 32, 0x60);
     memcpy(own + 4, hand.session.identifier, 9);
     memcpy(peer + 4, hand.session.identifier + 9, 9);
-    struct door_link_judgement says = door_link_judge(own, 13, peer, 13, false, hand);
+    struct door_link_judgement says = judged(own, 13, peer, 13, false, hand);
     EXPECT(says.reply.kind == DOOR_LINK_ENCRYPTED && says.reply.number == 26 && says.reply.role == 0 && says.reply.tep == 0xa3 && says.reply.resumed == 1);
     EXPECT(!says.reply.place && !says.reply.option);
     EXPECT(memcmp(says.transcript, own, 13) == 0 && memcmp(says.transcript + 13, peer, 13) == 0 && all_zero(says.transcript + 26, 54));
-    says = door_link_judge(peer, 13, own, 13, false, hand);
+    says = judged(peer, 13, own, 13, false, hand);
     EXPECT(says.reply.kind == DOOR_LINK_PLAIN && says.reply.number == DOOR_LINK_NO_TEP && !says.reply.role && !says.reply.tep && !says.reply.resumed);
     hand.session.role = 1;
-    says = door_link_judge(peer, 13, own, 13, false, hand);
+    says = judged(peer, 13, own, 13, false, hand);
     EXPECT(says.reply.kind == DOOR_LINK_ENCRYPTED && says.reply.number == 26 && says.reply.role == 1 && says.reply.tep == 0xa3 && says.reply.resumed == 1);
     hand.held = false;
-    says = door_link_judge(own, 13, peer, 13, false, hand);
+    says = judged(own, 13, peer, 13, false, hand);
     EXPECT(says.reply.kind == DOOR_LINK_PLAIN && says.reply.number == DOOR_LINK_NO_TEP && all_zero(says.transcript, sizeof says.transcript));
-    says = door_link_judge(own, 13, peer, 13, true, hand);
+    says = judged(own, 13, peer, 13, true, hand);
     EXPECT(says.reply.kind == DOOR_LINK_PLAIN && says.reply.number == DOOR_LINK_NOT_AWARE);
 }
 
@@ -258,18 +268,18 @@ static void places(void) {
         stays(&unit, door, door_link_unit_answer(&unit, door, broken->area, broken->length, false, false, &tep, 1, NULL, 0, out, sizeof out), broken);
 
         /* The judge: of two unreadable areas the own one's, and a refusal before both. */
-        struct door_link_judgement says = door_link_judge(syn, sizeof syn, broken->area, broken->length, false, none);
+        struct door_link_judgement says = judged(syn, sizeof syn, broken->area, broken->length, false, none);
         EXPECT(blames(says.reply, DOOR_LINK_PLAIN, DOOR_LINK_UNREADABLE, broken) && all_zero(says.transcript, sizeof says.transcript));
         for (size_t j = 0; j < sizeof all / sizeof all[0]; j++) {
-            says = door_link_judge(broken->area, broken->length, all[j].area, all[j].length, false, none);
+            says = judged(broken->area, broken->length, all[j].area, all[j].length, false, none);
             EXPECT(blames(says.reply, DOOR_LINK_PLAIN, DOOR_LINK_UNREADABLE, broken) && all_zero(says.transcript, sizeof says.transcript));
         }
-        says = door_link_judge(broken->area, broken->length, refused, sizeof refused, false, none);
+        says = judged(broken->area, broken->length, refused, sizeof refused, false, none);
         EXPECT(says.reply.kind == DOOR_LINK_REFUSED && says.reply.number == DOOR_LINK_AREA_TOO_LONG && !says.reply.place && !says.reply.option);
     }
     static const struct broken own = {{0x02}, 1, 0, 0x02}, peer = {{0x01, 0x03, 0x01}, 3, 1, 0x03};
-    EXPECT(blames(door_link_judge(own.area, own.length, peer.area, peer.length, false, none).reply, DOOR_LINK_PLAIN, DOOR_LINK_UNREADABLE, &own));
-    EXPECT(blames(door_link_judge(syn, sizeof syn, peer.area, peer.length, false, none).reply, DOOR_LINK_PLAIN, DOOR_LINK_UNREADABLE, &peer));
+    EXPECT(blames(judged(own.area, own.length, peer.area, peer.length, false, none).reply, DOOR_LINK_PLAIN, DOOR_LINK_UNREADABLE, &own));
+    EXPECT(blames(judged(syn, sizeof syn, peer.area, peer.length, false, none).reply, DOOR_LINK_PLAIN, DOOR_LINK_UNREADABLE, &peer));
 
     /* The end mark hides a fault; place 0 of a readable area is no fault's. */
     static const uint8_t hidden[5] = {0x45, 0x03, 0x23, 0x00, 0x02};
@@ -290,7 +300,7 @@ int main(void) {
     memset(&unit, 0xee, sizeof unit);
     door_link_unit_erase(&unit);
     EXPECT(all_zero((const uint8_t *)&unit, sizeof unit));
-    EXPECT(door_link_abi_4() == DOOR_LINK_ABI && door_link_unit_size() == sizeof unit);
+    EXPECT(door_link_abi_5() == DOOR_LINK_ABI && door_link_unit_size() == sizeof unit);
 
     /* The second record's row, and its number at the door. */
     EXPECT(door_link_unit_store(&unit, OTHER, 0x23, 0, identifier, 18, secret, 32).kind == DOOR_LINK_DONE);

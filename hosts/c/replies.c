@@ -79,6 +79,8 @@ static void other_nulls(size_t n) {
     EXPECT(says(judged.reply, DOOR_LINK_PLAIN, DOOR_LINK_NO_OPTION) && zeros(judged.transcript, sizeof judged.transcript));
     EXPECT(says(door_link_judge(option, 4, NULL, n, false, none).reply, DOOR_LINK_PLAIN, DOOR_LINK_NO_OPTION));
     EXPECT(says(door_link_judge(NULL, n, NULL, n, false, none).reply, DOOR_LINK_PLAIN, DOOR_LINK_NO_OPTION));
+    EXPECT(says(door_link_judge_plainly(NULL, n, option, 4, false, none).reply, DOOR_LINK_PLAIN, DOOR_LINK_NO_OPTION));
+    EXPECT(says(door_link_judge_plainly(option, 4, NULL, n, false, none).reply, DOOR_LINK_PLAIN, DOOR_LINK_NO_OPTION));
 }
 
 /* The questions, over every kind with the numbers of all others: no number is taken for another kind's. */
@@ -162,7 +164,7 @@ static void without_pointers(void) {
     EXPECT(!door_link_is_owed(g) && door_link_send(g, false).kind == DOOR_LINK_SENT && door_link_receive_frame(g, true).number == 1);
     EXPECT(door_link_generations_initiate(&g, true, false).number == 1 && door_link_generations_receive(&g, true).number == 1);
     EXPECT(door_link_generations_send(&g, true).number == 1 && g.fin && door_link_initiate(g, true, false).number == DOOR_LINK_FINISHED);
-    EXPECT(door_link_abi_4() == DOOR_LINK_ABI && door_link_unit_size() == DOOR_LINK_UNIT);
+    EXPECT(door_link_abi_5() == DOOR_LINK_ABI && door_link_unit_size() == DOOR_LINK_UNIT);
 }
 
 int main(void) {

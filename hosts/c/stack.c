@@ -24,6 +24,9 @@ static volatile uint8_t kept;
 
 static void find_status(void) { kept = door_link_find_status(given.bytes, given.bytes_length % 45, given.flag).kind; }
 static void judge(void) { kept = door_link_judge(given.bytes, given.bytes_length % 45, asked.area, asked.area_length, given.flag, given.hand).reply.kind; }
+static void judge_plainly(void) {
+    kept = door_link_judge_plainly(given.bytes, given.bytes_length % 45, asked.area, asked.area_length, given.flag, given.hand).reply.kind;
+}
 static void init1_write(void) {
     kept = door_link_init1_write(given.tep, given.ciphers, given.ciphers_count, given.nonce, given.nonce_length, given.key, given.key_length, given.lent,
                                  given.lent_length)
@@ -50,7 +53,7 @@ static void initiate(void) { kept = door_link_generations_initiate(&given.genera
 static void receive_frame(void) { kept = door_link_generations_receive(&given.generations, given.flag).kind; }
 
 static const struct unit_call other_calls[] = {
-    {"find_status", find_status}, {"judge", judge}, {"init1_write", init1_write}, {"init1_read", init1_read}, {"init2_write", init2_write},
+    {"find_status", find_status}, {"judge", judge}, {"judge_plainly", judge_plainly}, {"init1_write", init1_write}, {"init1_read", init1_read}, {"init2_write", init2_write},
     {"init2_read", init2_read}, {"next_offset", next_offset}, {"header_write", header_write}, {"header_read", header_read}, {"frame_id", frame_id},
     {"nonce", nonce}, {"plaintext_write", plaintext_write}, {"plaintext_read", plaintext_read}, {"first_record", first_record}, {"is_owed", is_owed},
     {"send", send_frame}, {"initiate", initiate}, {"receive_frame", receive_frame},

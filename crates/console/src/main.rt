@@ -1,6 +1,7 @@
 // The console: reads commands from standard input, a line each, runs each on one unit and writes one line for each (docs/CONSOLE.md).
 mod generation_calls;
 mod input;
+mod judge_calls;
 mod lines;
 mod message_calls;
 mod message_replies;
@@ -111,7 +112,7 @@ fn run_form(
 }
 
 // Runs a line. The forms stand here, one a line, and beside them the kinds of their words, a letter each:
-// n is a number, s one to 65,535, o one to 255, f a flag, t two hex digits, c a cipher, p ciphers, e those that are enabled, b bytes and l the lent buffer.
+// n is a number, s one to 65,535, o one to 255, f a flag, t two hex digits, c a cipher, p ciphers, e those that are enabled, r a record, b bytes and l the lent buffer.
 fn run_line(
     marks: &mut [u32; WORDS],
     rows: &mut [[u8; ROW]; ROWS],
@@ -146,6 +147,8 @@ send FIN
 initiate DATA FIN
 take REKEY
 owed
+judge MANDATORY RECORD AREA AREA
+judge-plainly MANDATORY RECORD AREA AREA
 help
 ";
     let kinds = b"noffbfbl
@@ -173,6 +176,8 @@ f
 ff
 f
 
+frbb
+frbb
 
 ";
     let mut words = [0u64; 16];

@@ -1,4 +1,5 @@
-// The finder, Init messages and frames: each call is made with the words of its line, by the number of its form, and its reply's words are put.
+// The finder, the judges, Init messages and frames: each call is made with the words of its line, by the number of its form, and its reply's words are put.
+use crate::judge_calls;
 use crate::message_replies;
 use crate::text::and_fault;
 use crate::text::and_hex;
@@ -139,6 +140,8 @@ pub fn call(form: usize, words: &[u64], bytes: &[u8], lent: &mut [u8], out: &mut
         17 => nonce(words, bytes, out),
         18 => plaintext_write(words, bytes, lent, out),
         19 => plaintext_read(words, bytes, out),
+        25 => judge_calls::judged(words, bytes, out),
+        26 => judge_calls::judged_plainly(words, bytes, out),
         _ => 0,
     }
 }

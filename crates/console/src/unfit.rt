@@ -7,9 +7,9 @@ use crate::texts::item;
 
 // What a word of a kind is; b and l are both bytes.
 fn put_kind(out: &mut [u8], at: usize, kind: u8) -> usize {
-    let letters = b"nsoftcpe";
+    let letters = b"nsoftcper";
     let words =
-        b" is a decimal number below 2^64, no leading zero\n is a decimal number to 65535, no leading zero\n is a decimal number to 255, no leading zero\n is 0 or 1\n is two hex digits\n is four hex digits\n is lower-case hex, four digits a cipher, or -\n is a list of 0001, 0002 and 0010, or -\n is lower-case hex, two digits a byte, or -\n";
+        b" is a decimal number below 2^64, no leading zero\n is a decimal number to 65535, no leading zero\n is a decimal number to 255, no leading zero\n is 0 or 1\n is two hex digits\n is four hex digits\n is lower-case hex, four digits a cipher, or -\n is a list of 0001, 0002 and 0010, or -\n is 52 bytes in lower-case hex, or -\n is lower-case hex, two digits a byte, or -\n";
     let number = text_words::place_of(letters, 0, kind);
     put(out, at, item(words, b'\n', number))
 }

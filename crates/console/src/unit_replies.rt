@@ -27,12 +27,25 @@ fn put_phase(out: &mut [u8], phase: Phase) -> usize {
     put(out, 0, text_words::word(phases, phase_place(phase)))
 }
 
-fn put_way(out: &mut [u8], at: usize, resumed: bool, secret: &[u8]) -> usize {
+pub fn put_role_and_tep(out: &mut [u8], role: u8, tep: u8) -> usize {
+    let after_role = put_counted(out, b"open", role as u64);
+    let byte = [tep];
+    and_hex(out, after_role, &byte)
+}
+
+pub fn put_way(out: &mut [u8], at: usize, resumed: bool) -> usize {
     if resumed {
-        let next = put(out, at, b" resumed");
-        return and_hex(out, next, secret);
+        return put(out, at, b" resumed");
     }
     put(out, at, b" fresh")
+}
+
+// A resumed connection has its secret behind the way.
+fn put_secret(out: &mut [u8], at: usize, resumed: bool, secret: &[u8]) -> usize {
+    if resumed {
+        return and_hex(out, at, secret);
+    }
+    at
 }
 
 fn put_open(
@@ -43,15 +56,14 @@ fn put_open(
     length: usize,
     secret: &[u8],
 ) -> usize {
-    let after_role = put_counted(out, b"open", role as u64);
-    let byte = [tep];
-    let after_tep = and_hex(out, after_role, &byte);
-    let after_way = put_way(out, after_tep, resumed, secret);
-    and_number(out, after_way, length as u64)
+    let after_tep = put_role_and_tep(out, role, tep);
+    let after_way = put_way(out, after_tep, resumed);
+    let after_secret = put_secret(out, after_way, resumed, secret);
+    and_number(out, after_secret, length as u64)
 }
 
 // Plain TCP and its reason; an unreadable area has a place and a kind.
-fn put_plain(out: &mut [u8], cause: Cause) -> usize {
+pub fn put_plain(out: &mut [u8], cause: Cause) -> usize {
     let after_reason = put_counted(out, b"plain", cause.reason as u64);
     if cause.reason != 1 {
         return after_reason;

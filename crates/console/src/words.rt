@@ -2,6 +2,7 @@
 // count and place are kept. The lent buffer, BUF, has room of its own.
 use crate::text::within;
 use init::Enabled;
+use link_unit::ROW;
 use text_words::Bytes;
 use text_words::Number;
 use text_words::Octet;
@@ -71,12 +72,21 @@ fn can_be_enabled(bytes: &[u8]) -> bool {
     }
 }
 
-// Whether bytes are of a kind: two of them, an even number of them, ciphers that can be enabled, or any.
+// Whether bytes are a session record, or none.
+fn are_record(bytes: &[u8]) -> bool {
+    if bytes.len() == 0 {
+        return true;
+    }
+    bytes.len() == ROW
+}
+
+// Whether bytes are of a kind: two of them, an even number of them, ciphers that can be enabled, a record or none, or any.
 fn are_of(kind: u8, bytes: &[u8]) -> bool {
     match kind {
         b'c' => bytes.len() == 2,
         b'p' => bytes.len() % 2 == 0,
         b'e' => can_be_enabled(bytes),
+        b'r' => are_record(bytes),
         _ => true,
     }
 }

@@ -4,7 +4,7 @@ use eno::Cause;
 use finder::FindStatus;
 use tep_choice::Decision;
 ghost use mathlib.Core.Path.{_≡_};
-ghost use mathlib.Core.Bool.{true, _&&_, not};
+ghost use mathlib.Core.Bool.{true};
 ghost use Rattle.eno.specs.Area.{finding};
 ghost use Rattle.eno.specs.Cause.{numbered};
 ghost use Rattle.door.specs.Door.{seenOf};
@@ -44,12 +44,6 @@ fn missed(area: &[u8]) -> Decision
     }
 }
 
-fn is_unaware(mandatory: bool, aware: bool) -> bool
-    ensures { λ r. ⌜ r ≡ (mandatory && not aware) ⌝ }
-{
-    if mandatory { !aware } else { false }
-}
-
 // What an answer to the option of an area comes to; the option is given beside its area.
 pub fn decide<'a>(
     view: View,
@@ -70,7 +64,7 @@ pub fn decide<'a>(
     if s.role == 1 {
         return plain(4);
     }
-    if is_unaware(mandatory, s.aware) {
+    if judgement::is_unaware(mandatory, s.aware) {
         return plain(5);
     }
     let entries = s.teps;

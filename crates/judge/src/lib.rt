@@ -62,10 +62,10 @@ pub fn judge<'a>(
     let own = finder::find_option(own_area, true);
     let peer = finder::find_option(peer_area, true);
     if own.len() == 0 {
-        return judge_missed::not_found(own_area, peer_area);
+        return judge_missed::not_found(own_area, own, peer_area, peer);
     }
     if peer.len() == 0 {
-        return judge_missed::not_found(own_area, peer_area);
+        return judge_missed::not_found(own_area, own, peer_area, peer);
     }
     let s = suboptions::summarize(own);
     let p = suboptions::summarize(peer);

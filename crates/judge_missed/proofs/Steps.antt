@@ -5,15 +5,17 @@ use mathlib.Core.List.{List}
 use mathlib.Core.Bool.{true}
 use mathlib.Core.Logic.{_⊎_, ⊎-elim}
 use native.Mathlib.Omega.{arith}
+use borrow.Author.Tests.{eq-eqb, ne-eqb}
+use lib.ListN.{length}
 use denote.Enum.Declared
 use Rattle.finder.specs.Answers.{statusOf}
 use Rattle.finder.specs.declared.FindStatus.{FindStatus}
 use Rattle.finder.specs.declared.FindStatus.the-variants as says
-use Rattle.eno.specs.Area.{status, finding}
+use Rattle.eno.specs.Area.{saysFound, status, finding}
 use Rattle.judgement.specs.Answers.{withoutTranscript}
 use Rattle.judgement.specs.declared.Verdict.{Verdict}
 use Rattle.judgement.specs.declared.Verdict.the-variants as verdict
-use Rattle.judge_missed.specs.Missed.{missedPeer, unlessRefused, missedAs, notFound}
+use Rattle.judge_missed.specs.Missed.{missedPeer, unlessRefused, missedAs, statusBy, notFound}
 
 -- a verdict by what the finder says, variant by variant
 module _ (x y : FindStatus) (e : x ≡ y) where
@@ -23,11 +25,20 @@ module _ (x y : FindStatus) (e : x ≡ y) where
   pub missed-by : (p : FindStatus) (v : Verdict) → v ≡ missedAs (statusOf y) (statusOf p) → v ≡ missedAs (statusOf x) (statusOf p)
   missed-by p v h = h ∙ ap (λ z. missedAs (statusOf z) (statusOf p)) (sym e)
 
--- from what the finder says of both areas
-pub missed-both : (own peer : List ℕ) (x y : FindStatus) → statusOf x ≡ status (finding own true) → statusOf y ≡ status (finding peer true)
-    → withoutTranscript (missedAs (statusOf x) (statusOf y)) ≡ notFound own peer
+-- what the finder says of an area is asked only where no option was found
+pub asked : (area o : List ℕ) → length o ≡ 0 → status (finding area true) ≡ statusBy area o
+unfolding statusBy
+asked area o e = simp (eq-eqb _ _ e)
+
+pub not-asked : (area o : List ℕ) → (length o ≡ 0 → ⊥) → saysFound ≡ statusBy area o
+unfolding statusBy
+not-asked area o h = simp (ne-eqb _ _ h)
+
+-- from what is said of both areas
+pub missed-both : (ownArea own peerArea peer : List ℕ) (x y : FindStatus) → statusOf x ≡ statusBy ownArea own → statusOf y ≡ statusBy peerArea peer
+    → withoutTranscript (missedAs (statusOf x) (statusOf y)) ≡ notFound ownArea own peerArea peer
 unfolding notFound
-missed-both own peer x y e h = ap₂ (λ p q. withoutTranscript (missedAs p q)) e h
+missed-both ownArea own peerArea peer x y e h = ap₂ (λ p q. withoutTranscript (missedAs p q)) e h
 
 abbrev tag : FindStatus → ℕ
 tag r = Declared.tagOf (Declared.declared Rattle.finder.proofs.FindStatus.enum) r

@@ -1,21 +1,23 @@
 -- Where the areas do not both have an option, what is said of them is the judgement. Assumes nothing.
 use Prim.Native.Nat.{ℕ}
-use mathlib.Core.Path.{_≡_, refl, _∙_, ap}
+use mathlib.Core.Path.{_≡_, refl, sym, _∙_, ap}
 use mathlib.Core.List.{List}
 use mathlib.Core.Bool.{Bool, true, false, cond, _||_, false≢true}
 use mathlib.Core.Option.{Option}
 use native.Mathlib.Omega.{arith}
+use native.Mathlib.Decide.{ℕ-discrete}
+use borrow.Author.Tests.{eq-eqb, ne-eqb}
 use lib.ListN.{length}
 use Rattle.eno.specs.Area.{Finding, refused, unreadable, missing, found, finding, partOf, status}
 use Rattle.eno.specs.Cause.{numbered, blame}
 use Rattle.eno.specs.Judge.{Judged, refuse, plain, firstOf, isUnreadable, isMissing, judge}
-use Rattle.eno.specs.Laws.Found.{found-option}
+use Rattle.eno.specs.Laws.Found.{found-option, found-says}
 use Rattle.eno.specs.Laws.Tests.{isRefused, long-refused}
 use Rattle.eno.specs.declared.SessionRecord.{SessionRecord}
 use Rattle.judgement.specs.Answers.{withoutTranscript, Judges}
 use Rattle.judgement.specs.Laws.Plainly.{judges-plainly}
 use Rattle.judgement.specs.declared.Judgement.{Judgement}
-use Rattle.judge_missed.specs.Missed.{missedAs, notFound}
+use Rattle.judge_missed.specs.Missed.{missedAs, statusBy, notFound}
 
 -- not found
 abbrev Missed : Finding → Type 0
@@ -36,6 +38,14 @@ module _ (s o : List ℕ) (e : o ≡ partOf s (finding s true)) where
           let w = h .long in
           let two = h .two in
           absurd (omega arith)
+
+  -- what the finder says of it
+  status-by : statusBy s o ≡ status (finding s true)
+  unfolding statusBy
+  status-by = elim (ℕ-discrete (length o) 0) [
+    | yes z ↦ simp (eq-eqb _ _ z)
+    | no z ↦ simp (ne-eqb _ _ z) (sym (found-says s true (λ q. z (ap length (e ∙ q)))))
+  ]
 
 -- the first tests, by what the finder says of each area: refused, unreadable, missing
 module _ (rest : Judged) where
@@ -88,13 +98,13 @@ module _ (mandatory : Bool) (hand : Option SessionRecord) (ownArea peerArea : Li
   abbrev g : Finding
   g = finding peerArea true
 
-  not-both : (isRefused f || isRefused g) || (isUnreadable f || isUnreadable g) || (isMissing f || isMissing g) ≡ true → Judges J (notFound ownArea peerArea)
-  unfolding judge firstOf notFound
-  not-both e = rw (long-refused ownArea, long-refused peerArea) (by-findings _ f g e)
-
   module _ (own peer : List ℕ) (eo : own ≡ partOf ownArea (finding ownArea true)) (ep : peer ≡ partOf peerArea (finding peerArea true)) where
-    pub judge-missed-own : length own ≡ 0 → (r : Judgement) → r ≡ notFound ownArea peerArea → Judges J r
+    not-both : (isRefused f || isRefused g) || (isUnreadable f || isUnreadable g) || (isMissing f || isMissing g) ≡ true → Judges J (notFound ownArea own peerArea peer)
+    unfolding judge firstOf notFound
+    not-both e = rw (long-refused ownArea, long-refused peerArea, status-by ownArea own eo, status-by peerArea peer ep) (by-findings _ f g e)
+
+    pub judge-missed-own : length own ≡ 0 → (r : Judgement) → r ≡ notFound ownArea own peerArea peer → Judges J r
     judge-missed-own z r e = rw e (not-both (or-left (isRefused f) (isUnreadable f) (isMissing f) (isRefused g) (isUnreadable g) (isMissing g) (missed ownArea own eo z)))
 
-    pub judge-missed-peer : length peer ≡ 0 → (r : Judgement) → r ≡ notFound ownArea peerArea → Judges J r
+    pub judge-missed-peer : length peer ≡ 0 → (r : Judgement) → r ≡ notFound ownArea own peerArea peer → Judges J r
     judge-missed-peer z r e = rw e (not-both (or-right (isRefused f) (isUnreadable f) (isMissing f) (isRefused g) (isUnreadable g) (isMissing g) (missed peerArea peer ep z)))

@@ -1,7 +1,9 @@
 -- Why two options were not both found, by what the finder says of this end's area and of the other side's.
 use Prim.Native.Nat.{ℕ}
 use mathlib.Core.List.{List}
-use mathlib.Core.Bool.{true}
+use mathlib.Core.Bool.{true, cond}
+use lib.Dec.{eqb}
+use lib.ListN.{length}
 use Rattle.eno.specs.Area.{Status, saysFound, saysNone, saysUnreadable, saysRefused, status, finding}
 use Rattle.judgement.specs.Answers.{withoutTranscript}
 use Rattle.judgement.specs.declared.Reason.the-variants as reason
@@ -30,5 +32,9 @@ missedAs saysNone p = missedPeer p
 missedAs (saysUnreadable f) p = unlessRefused p (unreadableAs (f .place) (f .kind))
 missedAs (saysRefused n) p = verdict.Refused
 
-unfoldable pub notFound : List ℕ → List ℕ → Judgement
-notFound own peer = withoutTranscript (missedAs (status (finding own true)) (status (finding peer true)))
+-- what the finder says of an area, beside the option that was found in it: found where that has bytes
+unfoldable pub statusBy : (area option : List ℕ) → Status
+statusBy area option = cond (eqb (length option) 0) (status (finding area true)) saysFound
+
+unfoldable pub notFound : (ownArea own peerArea peer : List ℕ) → Judgement
+notFound ownArea own peerArea peer = withoutTranscript (missedAs (statusBy ownArea own) (statusBy peerArea peer))

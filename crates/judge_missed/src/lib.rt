@@ -5,7 +5,7 @@ use judgement::Reason;
 use judgement::Verdict;
 ghost use mathlib.Core.Path.{_≡_};
 ghost use Rattle.finder.specs.Answers.{statusOf};
-ghost use Rattle.judge_missed.specs.Missed.{unreadableAs, missedPeer, unlessRefused, missedAs, notFound};
+ghost use Rattle.judge_missed.specs.Missed.{unreadableAs, missedPeer, unlessRefused, missedAs, statusBy, notFound};
 
 // An unreadable area, by the option that makes it so.
 fn unreadable(place: u8, kind: u8) -> Verdict
@@ -49,12 +49,27 @@ fn missed(own: FindStatus, peer: FindStatus) -> Verdict
     }
 }
 
-// The judgement of two areas that do not both have an option.
-pub fn not_found<'a>(own: &'a [u8], peer: &'a [u8]) -> Judgement
-    ensures { λ r. ⌜ r ≡ notFound (now (own .entry)) (now (peer .entry)) ⌝ }
+// What the finder says of an area, beside the option that was found in it: it is asked only where that has no bytes.
+fn status_of<'a>(area: &'a [u8], option: &'a [u8]) -> FindStatus
+    ensures { λ r. ⌜ statusOf r ≡ statusBy (now (area .entry)) (now (option .entry)) ⌝ }
 {
-    let s = finder::find_status(own, true);
-    let p = finder::find_status(peer, true);
+    if option.len() == 0 {
+        return finder::find_status(area, true);
+    }
+    FindStatus::Found
+}
+
+// The judgement of two areas that do not both have an option; what was found in each is given beside it.
+pub fn not_found<'a>(
+    own_area: &'a [u8],
+    own: &'a [u8],
+    peer_area: &'a [u8],
+    peer: &'a [u8],
+) -> Judgement
+    ensures { λ r. ⌜ r ≡ notFound (now («own_area» .entry)) (now (own .entry)) (now («peer_area» .entry)) (now (peer .entry)) ⌝ }
+{
+    let s = status_of(own_area, own);
+    let p = status_of(peer_area, peer);
     let verdict = missed(s, p);
     judgement::without_transcript(verdict)
 }

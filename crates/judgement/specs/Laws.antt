@@ -1,3 +1,4 @@
 -- Laws of a judge's answers, for the proofs.
 pub mod Plainly
+pub mod Found
 pub mod Transcript

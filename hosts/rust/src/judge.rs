@@ -103,12 +103,35 @@ pub fn judge(
     mandatory: bool,
     hand: Option<&InHand>,
 ) -> Result<Judgement, Error> {
-    let hand = hand.map(|hand| untyped::InHand {
+    judge_of(own, peer, mandatory, hand.map(numbers_of).as_ref())
+}
+
+/// As [`judge`](crate::judge), by the plain judge: it lists all suboptions, strikes the ones not valid and takes the last, and is slower. That both say the same of every two areas is
+/// proved.
+///
+/// ```
+/// use door_link::{judge, judge_plainly};
+/// let (own, peer) = ([0x45, 4, 0x21, 0x23], [0x45, 4, 0x01, 0x23]);
+/// assert_eq!(judge_plainly(&own, &peer, false, None), judge(&own, &peer, false, None));
+/// ```
+#[inline]
+pub fn judge_plainly(
+    own: &[u8],
+    peer: &[u8],
+    mandatory: bool,
+    hand: Option<&InHand>,
+) -> Result<Judgement, Error> {
+    judge_plainly_of(own, peer, mandatory, hand.map(numbers_of).as_ref())
+}
+
+/// The record in hand as the library takes it.
+#[inline]
+fn numbers_of(hand: &InHand) -> untyped::InHand {
+    untyped::InHand {
         tep: hand.tep.number(),
         role: hand.role.number(),
         identifier: hand.identifier,
-    });
-    judge_of(own, peer, mandatory, hand.as_ref())
+    }
 }
 
 /// As [`judge`](crate::judge).
@@ -120,6 +143,17 @@ pub fn judge_of(
     hand: Option<&untyped::InHand>,
 ) -> Result<Judgement, Error> {
     judgement(&ffi::judge::judge(own, peer, mandatory, hand))
+}
+
+/// As [`judge_plainly`](crate::judge_plainly).
+#[inline]
+pub fn judge_plainly_of(
+    own: &[u8],
+    peer: &[u8],
+    mandatory: bool,
+    hand: Option<&untyped::InHand>,
+) -> Result<Judgement, Error> {
+    judgement(&ffi::judge::judge_plainly(own, peer, mandatory, hand))
 }
 
 /// Reads the judge's numbers, each one tested: bytes past the transcript are zeros, and all of them where there is none.

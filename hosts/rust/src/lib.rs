@@ -8,7 +8,7 @@
 //! | Init messages | [`init1_write`], [`init1_read`], [`init2_write`], [`init2_read`] |
 //! | frames | [`write_header`], [`read_header`], [`next_offset`], [`frame_id`], [`nonce`], [`write_plaintext`], [`read_plaintext`] |
 //! | generations | [`Generations`], a method for each step |
-//! | captures and diagnosis | [`find_status`], [`judge`] |
+//! | captures and diagnosis | [`find_status`], [`judge`], [`judge_plainly`] |
 //! | arguments as numbers and slices | [`untyped`] |
 //!
 //! No call panics. A call that is refused leaves the unit or the record and the lent buffer as found; beyond the bytes that a call reports as written,
@@ -146,7 +146,7 @@ pub use init::{
     cipher, init1_read, init1_write, init2_read, init2_write, Enabled, Init, INIT_KEY,
     INIT_LONGEST, INIT_NONCE,
 };
-pub use judge::{judge, InHand, Judgement, Transcript};
+pub use judge::{judge, judge_plainly, InHand, Judgement, Transcript};
 use reply::{read, Told};
 pub use reply::{Error, Outcome, Phase, Reason, Refusal, Reply, Role, Secret, Status, Way};
 pub use tep::Tep;

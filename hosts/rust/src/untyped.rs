@@ -18,7 +18,7 @@ pub use crate::frame::nonce_of as nonce;
 pub use crate::init::{
     read1 as init1_read, read2 as init2_read, write1 as init1_write, write2 as init2_write,
 };
-pub use crate::judge::judge_of as judge;
+pub use crate::judge::{judge_of as judge, judge_plainly_of as judge_plainly};
 
 /// As [`Offer`](crate::Offer).
 #[derive(Clone, Copy, PartialEq, Eq, Debug)]

@@ -6,8 +6,8 @@ mod driver;
 mod model;
 mod wrong;
 
-use binding::{Binding, Calls};
-use driver::calls::Unit;
+use binding::{Binding, Calls, Plainly};
+use driver::calls::{Judging, Unit};
 use driver::counts::{Counts, LEAST};
 use driver::links::{Links, STRANGE};
 use driver::random::{calls, seed};
@@ -95,12 +95,13 @@ fn places_in_full() {
     println!("unreadable areas");
     println!("  finder {}", good(places::finder(&Wire, &Calls)));
     println!("  judge  {}", good(places::judge(&Wire, &Calls)));
+    println!("  plain judge {}", good(places::judge(&Wire, &Plainly)));
     let counts = good(places::unit(Model::new(), Binding::new()));
     counts.print("unreadable areas before the unit");
     counts.demand_places(LEAST);
 }
 
-/// Every ciphertext length, generation records at the limits, every short option before the judge.
+/// Every ciphertext length, generation records at the limits, every short option before the two judges.
 #[test]
 fn limits_in_full() {
     let lengths = good(limits::lengths(&Wire, &Calls));
@@ -111,13 +112,24 @@ fn limits_in_full() {
     records.demand_refusals(&[4, 13, 14, 15]);
     println!("short options before the judge");
     println!("  calls {}", good(limits::judged(&Wire, &Calls)));
+    println!("  calls {}", good(limits::judged(&Wire, &Plainly)));
 }
 
 /// Pairs of option areas.
 #[test]
 fn judgements() {
-    let counts = good(judge::compare(seed(), calls(), &Wire, &Calls));
-    counts.print("judgements");
+    judged_as_the_model("judgements", &Calls);
+}
+
+/// The same pairs before the plain judge.
+#[test]
+fn plain_judgements() {
+    judged_as_the_model("plain judgements", &Plainly);
+}
+
+fn judged_as_the_model(title: &str, tested: &impl Judging) {
+    let counts = good(judge::compare(seed(), calls(), &Wire, tested));
+    counts.print(title);
     counts.demand_refusals(&[2]);
     counts.demand_places(LEAST);
     counts.demand([

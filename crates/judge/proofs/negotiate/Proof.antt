@@ -1,6 +1,7 @@
 -- `negotiate` meets its contract.
 use mathlib.Core.Path.{_≡_, refl, sym, _∙_, ap}
-use Rattle.judge_quick.specs.Laws.Cases.{negotiated-by, short-a, short-b}
+use Rattle.judgement.specs.Laws.Found.{short-a, short-b}
+use Rattle.judge_quick.specs.Laws.Cases.{negotiated-by}
 use borrow.Author.Needs.{needs}
 use Rattle.judge.proofs.negotiate.Statement.{statement}
 use Rattle.judge.proofs.negotiate.Tie as tie

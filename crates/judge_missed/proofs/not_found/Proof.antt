@@ -6,11 +6,11 @@ use borrow.Author.Needs.{needs}
 use Rattle.judge_missed.proofs.not_found.Statement.{statement}
 use Rattle.judge_missed.proofs.not_found.Tie as tie
 
-find-status-requires : tie.Need-find-status-requires
-find-status-requires c κs = search needs
+status-of-requires : tie.Need-status-of-requires
+status-of-requires c κs = search needs
 
-find-status-requires-2 : tie.Need-find-status-requires-2
-find-status-requires-2 c κs = search needs
+status-of-requires-2 : tie.Need-status-of-requires-2
+status-of-requires-2 c κs = search needs
 
 missed-requires : tie.Need-missed-requires
 missed-requires c κs = search needs
@@ -20,14 +20,14 @@ without-transcript-requires c κs = search needs
 
 returns : tie.Need-returns
 returns c =
-    c .without-transcript .ensures ∙ (ap withoutTranscript (c .before .missed .ensures) ∙ missed-both _ _ (c .before .before .before .find-status .result) (c .before .before .find-status2 .result) (c .before .before .before .find-status .ensures) (c .before .before .find-status2 .ensures))
+    c .without-transcript .ensures ∙ (ap withoutTranscript (c .before .missed .ensures) ∙ missed-both _ _ _ _ (c .before .before .before .status-of .result) (c .before .before .status-of2 .result) (c .before .before .before .status-of .ensures) (c .before .before .status-of2 .ensures))
 
 pub not-found-spec : {M : Type 1} → statement M
 not-found-spec =
     tie.close
     (tie.spec
-    find-status-requires
-    find-status-requires-2
+    status-of-requires
+    status-of-requires-2
     missed-requires
     without-transcript-requires
     returns)

@@ -1,30 +1,29 @@
 -- The cases of the judgement of two options that are found, as the code meets them. Assumes nothing.
 use Prim.Native.Nat.{ℕ, _≤_}
 use mathlib.Core.Path.{_≡_, refl, sym, _∙_, ap, ap₂}
-use mathlib.Core.List.{List, []}
+use mathlib.Core.List.{List}
 use mathlib.Core.Bool.{Bool, true, false, cond, not, _&&_, _||_}
 use mathlib.Core.Option.{Option}
 use native.Mathlib.Omega.{arith}
 use borrow.Author.Tests.{eq-eqb, ne-eqb}
 use lib.Dec.{eqb}
 use lib.ListN.{length}
-use Rattle.eno.specs.Area.{finding, partOf, synOption}
+use Rattle.eno.specs.Area.{finding, partOf}
 use Rattle.eno.specs.Cause.{numbered}
-use Rattle.eno.specs.declared.Cause.{Cause}
 use Rattle.eno.specs.Suboption.{suboptions, isIllFormed}
-use Rattle.eno.specs.Judge.{ofA, ofB, Judged, plain, negotiate, firstOf, roleOf, awareOf, tepsOf, judge}
+use Rattle.eno.specs.Judge.{ofA, ofB, Judged, plain, negotiate, roleOf, awareOf, tepsOf, judge}
 use Rattle.eno.specs.Laws.Found.{found-short}
-use Rattle.eno.specs.Laws.Tests.{is-found, aware-or-not}
+use Rattle.eno.specs.Laws.Tests.{aware-or-not}
 use Rattle.eno.specs.declared.SessionRecord.{SessionRecord}
 use Rattle.suboptions.specs.Summary.{entriesOf, summaryOf}
 use Rattle.suboptions.specs.Laws.{saying, summary-says}
 use Rattle.suboptions.specs.declared.Summary.{Summary}
 use Rattle.valid_tep.specs.Best.{bestOf}
 use Rattle.valid_tep.specs.declared.Best.{Best}
-use Rattle.judgement.specs.Answers.{judgedOf, transcriptOf, withoutTranscript, Judges}
-use Rattle.judgement.specs.Laws.Plainly.{judges-plainly}
+use Rattle.judgement.specs.Answers.{withoutTranscript, Judges}
+use Rattle.judgement.specs.Laws.Plainly.{judges-reason}
+use Rattle.judgement.specs.Laws.Found.{after-found}
 use Rattle.judgement.specs.declared.Reason.the-variants as reason
-use Rattle.judgement.specs.declared.Verdict.{Verdict}
 use Rattle.judgement.specs.declared.Verdict.the-variants as verdict
 use Rattle.judgement.specs.declared.Judgement.{Judgement}
 use Rattle.judge_quick.specs.Quick.{concluded, negotiated}
@@ -43,17 +42,6 @@ module _ (mandatory : Bool) (hand : Option SessionRecord) (ownArea peerArea : Li
     within-peer = let h = found-short peerArea true peer ep in omega arith
 
     module _ (no : length own ≡ 0 → ⊥) (np : length peer ≡ 0 → ⊥) where
-      -- both options found
-      after-found : J ≡ cond (isIllFormed (suboptions own) || isIllFormed (suboptions peer)) (plain (numbered 3))
-          (cond (eqb (roleOf own) (roleOf peer)) (plain (numbered 4))
-          (cond (mandatory && eqb (awareOf peer) 0) (plain (numbered 5))
-          (negotiate (roleOf own) (sides hand own peer (eqb (roleOf own) 1)))))
-      unfolding judge firstOf synOption
-      after-found =
-          let F = is-found ownArea own eo no in
-          let G = is-found peerArea peer ep np in
-          rw (eo, ep) (simp (F .not-long, G .not-long, F .not-unreadable, G .not-unreadable, F .not-missing, G .not-missing))
-
       module _ (s p : Summary) (es : s ≡ summaryOf own) (et : p ≡ summaryOf peer) where
         ill-own : isIllFormed (suboptions own) ≡ s .«ill_formed»
         ill-own = sym (ap (λ (x : Summary). x .«ill_formed») (es ∙ summary-says own within-own))
@@ -75,28 +63,25 @@ module _ (mandatory : Bool) (hand : Option SessionRecord) (ownArea peerArea : Li
             (cond (eqb (s .role) (p .role)) (plain (numbered 4))
             (cond (mandatory && not (p .aware)) (plain (numbered 5))
             (negotiate (roleOf own) (sides hand own peer (eqb (roleOf own) 1)))))
-        by-summaries = after-found
+        by-summaries = after-found mandatory hand ownArea peerArea own peer eo ep no np
             ∙ (ap₂ (λ x y. cond (x || y) (plain (numbered 3)) (cond (eqb (roleOf own) (roleOf peer)) (plain (numbered 4)) (cond (mandatory && eqb (awareOf peer) 0) (plain (numbered 5)) (negotiate (roleOf own) (sides hand own peer (eqb (roleOf own) 1)))))) ill-own ill-peer
             ∙ (ap₂ (λ x y. cond (s .«ill_formed» || p .«ill_formed») (plain (numbered 3)) (cond (eqb x y) (plain (numbered 4)) (cond (mandatory && eqb (awareOf peer) 0) (plain (numbered 5)) (negotiate (roleOf own) (sides hand own peer (eqb (roleOf own) 1)))))) role-own role-peer
             ∙ ap (λ x. cond (s .«ill_formed» || p .«ill_formed») (plain (numbered 3)) (cond (eqb (s .role) (p .role)) (plain (numbered 4)) (cond (mandatory && x) (plain (numbered 5)) (negotiate (roleOf own) (sides hand own peer (eqb (roleOf own) 1)))))) unaware-peer))
 
-        plainly : (n : Cause) (v : Verdict) → J ≡ plain n → judgedOf v [] ≡ plain n → (r : Judgement) → r ≡ withoutTranscript v → Judges J r
-        plainly n v e q r w = rw w (judges-plainly J v (q ∙ sym e) (ap transcriptOf e))
-
         pub judge-ill-own : s .«ill_formed» ≡ true → (r : Judgement) → r ≡ withoutTranscript (verdict.Plain reason.IllFormed) → Judges J r
-        judge-ill-own i r w = plainly (numbered 3) (verdict.Plain reason.IllFormed) (by-summaries ∙ simp i) refl r w
+        judge-ill-own i r w = judges-reason J (numbered 3) (verdict.Plain reason.IllFormed) (by-summaries ∙ simp i) refl r w
 
         module _ (well : s .«ill_formed» ≡ false) where
           pub judge-ill-peer : p .«ill_formed» ≡ true → (r : Judgement) → r ≡ withoutTranscript (verdict.Plain reason.IllFormed) → Judges J r
-          judge-ill-peer i r w = plainly (numbered 3) (verdict.Plain reason.IllFormed) (by-summaries ∙ simp (well, i)) refl r w
+          judge-ill-peer i r w = judges-reason J (numbered 3) (verdict.Plain reason.IllFormed) (by-summaries ∙ simp (well, i)) refl r w
 
           module _ (well′ : p .«ill_formed» ≡ false) where
             pub judge-equal : s .role ≡ p .role → (r : Judgement) → r ≡ withoutTranscript (verdict.Plain reason.EqualRoles) → Judges J r
-            judge-equal i r w = plainly (numbered 4) (verdict.Plain reason.EqualRoles) (by-summaries ∙ simp (well, well′, eq-eqb _ _ i)) refl r w
+            judge-equal i r w = judges-reason J (numbered 4) (verdict.Plain reason.EqualRoles) (by-summaries ∙ simp (well, well′, eq-eqb _ _ i)) refl r w
 
             module _ (differ : s .role ≡ p .role → ⊥) (u : Bool) (is : u ≡ mandatory && not (p .aware)) where
               pub judge-unaware : u ≡ true → (r : Judgement) → r ≡ withoutTranscript (verdict.Plain reason.NotAware) → Judges J r
-              judge-unaware i r w = plainly (numbered 5) (verdict.Plain reason.NotAware) (by-summaries ∙ simp (well, well′, ne-eqb _ _ differ, ← is, i)) refl r w
+              judge-unaware i r w = judges-reason J (numbered 5) (verdict.Plain reason.NotAware) (by-summaries ∙ simp (well, well′, ne-eqb _ _ differ, ← is, i)) refl r w
 
               pub judge-negotiated : u ≡ false → (r : Judgement) → r ≡ negotiated own peer hand s p → Judges J r
               unfolding negotiated
@@ -113,14 +98,3 @@ pub negotiated-by : (own peer : List ℕ) (hand : Option SessionRecord) (s p : S
 unfolding negotiated
 negotiated-by own peer hand s p a b best ea eb e =
     ap (concluded a b (s .role)) e ∙ ap₂ (λ x y. concluded x y (s .role) (bestOf x y hand (eqb (s .role) 1) (s .teps) (p .teps))) ea eb
-
--- one of two short options is short
-pub short-a : (c : Bool) (own peer a : List ℕ) → a ≡ ofA c own peer → length own ≤ 40 → length peer ≤ 40 → length a ≤ 40
-unfolding ofA
-short-a true own peer a e h k = let l = ap length e in omega arith
-short-a false own peer a e h k = let l = ap length e in omega arith
-
-pub short-b : (c : Bool) (own peer b : List ℕ) → b ≡ ofB c own peer → length own ≤ 40 → length peer ≤ 40 → length b ≤ 40
-unfolding ofB
-short-b true own peer b e h k = let l = ap length e in omega arith
-short-b false own peer b e h k = let l = ap length e in omega arith

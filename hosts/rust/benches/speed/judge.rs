@@ -34,6 +34,20 @@ fn kept(area: &[u8]) -> ([u8; AREA], usize) {
     (bytes, length)
 }
 
+/// The library's numbers as the plain Rust gives them.
+fn as_plain(told: ffi::judge::JudgementNumbers) -> Judged {
+    Judged {
+        number: told.reply.number,
+        kind: told.reply.kind,
+        role: told.reply.role,
+        tep: told.reply.tep,
+        resumed: told.reply.resumed,
+        place: told.reply.place,
+        option: told.reply.option,
+        transcript: told.transcript,
+    }
+}
+
 impl Pair {
     fn of(ask: Ask) -> Pair {
         let record = ask.in_hand;
@@ -65,6 +79,11 @@ impl Pair {
         ffi::judge::judge(own, peer, self.mandatory, self.hand.as_ref())
     }
 
+    fn slowly(&self) -> ffi::judge::JudgementNumbers {
+        let (own, peer) = self.areas();
+        ffi::judge::judge_plainly(own, peer, self.mandatory, self.hand.as_ref())
+    }
+
     fn safe(&self) -> Result<door_link::Judgement, door_link::Error> {
         let (own, peer) = self.areas();
         untyped::judge(own, peer, self.mandatory, self.hand.as_ref())
@@ -87,17 +106,8 @@ impl Pair {
 
     /// All judges say the same.
     fn check(&self) {
-        let told = self.library();
-        let numbers = Judged {
-            number: told.reply.number,
-            kind: told.reply.kind,
-            role: told.reply.role,
-            tep: told.reply.tep,
-            resumed: told.reply.resumed,
-            place: told.reply.place,
-            option: told.reply.option,
-            transcript: told.transcript,
-        };
+        let numbers = as_plain(self.library());
+        assert_eq!(numbers, as_plain(self.slowly()), "{:02x?}", self.areas());
         assert_eq!(numbers, self.plain(), "{:02x?}", self.areas());
         assert_eq!(numbers, self.fastest(), "{:02x?}", self.areas());
         let expected = match self.model() {
@@ -127,8 +137,8 @@ fn time<T>(block: &[Pair], judge: impl Fn(&Pair) -> T) -> f64 {
 type Kind = (&'static str, usize, fn(&mut Random) -> Ask);
 
 /// The summed times of the judges over so many pairs of a kind.
-fn over(random: &mut Random, pairs: usize, kind: fn(&mut Random) -> Ask) -> [f64; 5] {
-    let mut times = [0.0; 5];
+fn over(random: &mut Random, pairs: usize, kind: fn(&mut Random) -> Ask) -> [f64; 6] {
+    let mut times = [0.0; 6];
     for _ in 0..pairs / BLOCK {
         let block: Vec<Pair> = (0..BLOCK).map(|_| Pair::of(kind(random))).collect();
         block.iter().for_each(Pair::check);
@@ -137,12 +147,13 @@ fn over(random: &mut Random, pairs: usize, kind: fn(&mut Random) -> Ask) -> [f64
         times[2] += time(&block, Pair::plain);
         times[3] += time(&block, Pair::fastest);
         times[4] += time(&block, Pair::model);
+        times[5] += time(&block, Pair::slowly);
     }
     times
 }
 
-fn print(name: &str, pairs: usize, times: [f64; 5]) {
-    let [library, safe, plain, fastest, model] = times.map(|time| time / pairs as f64);
+fn print(name: &str, pairs: usize, times: [f64; 6]) {
+    let [library, safe, plain, fastest, model, slowly] = times.map(|time| time / pairs as f64);
     row(&[
         name.to_string(),
         ns(library),
@@ -152,6 +163,8 @@ fn print(name: &str, pairs: usize, times: [f64; 5]) {
         ns(model),
         ratio(library, plain),
         ratio(library, fastest),
+        ns(slowly),
+        ratio(slowly, library),
     ]);
 }
 
@@ -169,9 +182,11 @@ pub fn run() {
         "test model",
         "to plain",
         "to fastest",
+        "door_link_judge_plainly",
+        "plain judge to quick",
     ];
     head(&title, &columns);
-    let mut all = [0.0; 5];
+    let mut all = [0.0; 6];
     let mut count = 0;
     let kinds: [Kind; 3] = [
         ("such as two ends send", 700_000, real),

@@ -1,4 +1,4 @@
-//! The judge.
+//! The two judges.
 
 use core::mem::{align_of, offset_of, size_of};
 
@@ -42,9 +42,30 @@ extern "C" {
         mandatory: bool,
         hand: Hand,
     ) -> JudgementNumbers;
+
+    fn door_link_judge_plainly(
+        own_area: *const u8,
+        own_length: usize,
+        peer_area: *const u8,
+        peer_length: usize,
+        mandatory: bool,
+        hand: Hand,
+    ) -> JudgementNumbers;
 }
 
-/// The judge looks at no secret, so that zeros are given for one.
+/// The judges look at no secret, so that zeros are given for one.
+#[inline]
+fn hand_of(hand: Option<&crate::untyped::InHand>) -> Hand {
+    Hand {
+        held: hand.is_some(),
+        tep: hand.map_or(0, |record| record.tep),
+        role: hand.map_or(0, |record| record.role),
+        identifier: hand.map_or([0; 18], |record| record.identifier),
+        secret: [0; 32],
+    }
+}
+
+/// The quick judge.
 #[inline]
 pub(crate) fn judge(
     own: &[u8],
@@ -52,16 +73,32 @@ pub(crate) fn judge(
     mandatory: bool,
     hand: Option<&crate::untyped::InHand>,
 ) -> JudgementNumbers {
-    let hand = Hand {
-        held: hand.is_some(),
-        tep: hand.map_or(0, |record| record.tep),
-        role: hand.map_or(0, |record| record.role),
-        identifier: hand.map_or([0; 18], |record| record.identifier),
-        secret: [0; 32],
-    };
+    let hand = hand_of(hand);
     // SAFETY: pointers and lengths are those of slices.
     unsafe {
         door_link_judge(
+            own.as_ptr(),
+            own.len(),
+            peer.as_ptr(),
+            peer.len(),
+            mandatory,
+            hand,
+        )
+    }
+}
+
+/// The plain judge.
+#[inline]
+pub(crate) fn judge_plainly(
+    own: &[u8],
+    peer: &[u8],
+    mandatory: bool,
+    hand: Option<&crate::untyped::InHand>,
+) -> JudgementNumbers {
+    let hand = hand_of(hand);
+    // SAFETY: pointers and lengths are those of slices.
+    unsafe {
+        door_link_judge_plainly(
             own.as_ptr(),
             own.len(),
             peer.as_ptr(),

@@ -50,7 +50,7 @@ fn abi() {
     // SAFETY: the instruction changes nothing and reads nothing.
     unsafe {
         asm!(
-            "nopl door_link_abi_4@PLT(%rip)",
+            "nopl door_link_abi_5@PLT(%rip)",
             options(att_syntax, nomem, nostack, preserves_flags)
         )
     };

@@ -6,7 +6,7 @@ use door_link::{self as link, untyped, Error, LinkUnit, Outcome, Phase, Reason, 
 
 use crate::driver::calls::{Cause, PhaseNow, Reply, Unit};
 
-pub use wire::Calls;
+pub use wire::{Calls, Plainly};
 
 /// The number that stands for a reply that could not be read; the model never gives it.
 const UNEXPECTED: u8 = 255;

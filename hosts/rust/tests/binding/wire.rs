@@ -205,6 +205,52 @@ impl Rekeying for Calls {
     }
 }
 
+/// A judge of the crate, by its types or by numbers.
+type Judge<H> = fn(&[u8], &[u8], bool, Option<&H>) -> Result<Judgement, link::Error>;
+
+/// By the crate's types, where the record in hand has them.
+fn judged(
+    (typed, by_numbers): (Judge<link::InHand>, Judge<untyped::InHand>),
+    (own, peer): (&[u8], &[u8]),
+    mandatory: bool,
+    in_hand: Option<&Record>,
+) -> Answer<Judged> {
+    let hand = in_hand.map(
+        |record| match (Tep::of(record.tep), Role::of(record.role)) {
+            (Some(tep), Some(role)) => Ok(link::InHand {
+                tep,
+                role,
+                identifier: record.identifier,
+            }),
+            _ => Err(untyped::InHand {
+                tep: record.tep,
+                role: record.role,
+                identifier: record.identifier,
+            }),
+        },
+    );
+    let judged = match hand {
+        None => typed(own, peer, mandatory, None),
+        Some(Ok(hand)) => typed(own, peer, mandatory, Some(&hand)),
+        Some(Err(hand)) => by_numbers(own, peer, mandatory, Some(&hand)),
+    };
+    Ok(match judged.map_err(number)? {
+        Judgement::Plain(reason) => Judged::Plain(cause(reason)),
+        Judgement::Encrypted {
+            role,
+            byte,
+            resumed,
+            transcript,
+            ..
+        } => Judged::Encrypted {
+            role: role.number(),
+            tep: byte,
+            resumed,
+            transcript: transcript.bytes().to_vec(),
+        },
+    })
+}
+
 impl Judging for Calls {
     fn judge(
         &self,
@@ -213,40 +259,23 @@ impl Judging for Calls {
         mandatory: bool,
         in_hand: Option<&Record>,
     ) -> Answer<Judged> {
-        let typed = in_hand.map(
-            |record| match (Tep::of(record.tep), Role::of(record.role)) {
-                (Some(tep), Some(role)) => Ok(link::InHand {
-                    tep,
-                    role,
-                    identifier: record.identifier,
-                }),
-                _ => Err(untyped::InHand {
-                    tep: record.tep,
-                    role: record.role,
-                    identifier: record.identifier,
-                }),
-            },
-        );
-        let judged = match typed {
-            None => link::judge(own, peer, mandatory, None),
-            Some(Ok(hand)) => link::judge(own, peer, mandatory, Some(&hand)),
-            Some(Err(hand)) => untyped::judge(own, peer, mandatory, Some(&hand)),
-        };
-        let judged = judged.map_err(number)?;
-        Ok(match judged {
-            Judgement::Plain(reason) => Judged::Plain(cause(reason)),
-            Judgement::Encrypted {
-                role,
-                byte,
-                resumed,
-                transcript,
-                ..
-            } => Judged::Encrypted {
-                role: role.number(),
-                tep: byte,
-                resumed,
-                transcript: transcript.bytes().to_vec(),
-            },
-        })
+        let quick = (link::judge as _, untyped::judge as _);
+        judged(quick, (own, peer), mandatory, in_hand)
+    }
+}
+
+/// The plain judge.
+pub struct Plainly;
+
+impl Judging for Plainly {
+    fn judge(
+        &self,
+        own: &[u8],
+        peer: &[u8],
+        mandatory: bool,
+        in_hand: Option<&Record>,
+    ) -> Answer<Judged> {
+        let plain = (link::judge_plainly as _, untyped::judge_plainly as _);
+        judged(plain, (own, peer), mandatory, in_hand)
     }
 }

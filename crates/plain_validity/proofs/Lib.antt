@@ -1,0 +1,4 @@
+-- Laws that the proofs share.
+pub mod Data
+pub mod Halves
+pub mod Cases

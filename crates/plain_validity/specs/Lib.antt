@@ -1,0 +1,2 @@
+-- Whether a TEP is valid, by what each side sent.
+pub mod Validity

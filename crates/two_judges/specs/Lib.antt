@@ -1,0 +1,2 @@
+-- That two judges who keep the same promise say the same.
+pub mod Equal
