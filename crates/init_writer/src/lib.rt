@@ -72,7 +72,8 @@ pub fn init1_write(
         return InitWritten::Unfit;
     }
     let at = 9 + 2 * ciphers.len();
-    let n = at + 32 + key.len();
+    let behind = at + 32;
+    let n = behind + key.len();
     if out.len() < n {
         return InitWritten::NoRoom;
     }
@@ -83,7 +84,7 @@ pub fn init1_write(
     wire::copy(out, 8, &count);
     put_ciphers(out, 9, ciphers);
     wire::copy(out, at, nonce);
-    wire::copy(out, at + 32, key);
+    wire::copy(out, behind, key);
     InitWritten::Written(n)
 }
 

@@ -56,7 +56,9 @@ enum-known-choice : tie.Need-enum-known-choice
 enum-known-choice c = search needs
 
 taken-requires : tie.Need-taken-requires
-taken-requires c κs = (read1-room _ (c .before .before .before .before .before .before .before .before .before .before .before .before .args .enabled) (c .before .before .before .before .before .before .before .before .before .before .before .before .args .bytes .now) _ (c .before .before .before .before .before .before .before .before .before .before .keys-of .ensures .0) (c .before .before .before .before .before .before .before .before .before .if1 .left) _ (c .before .before .before .before .before .before .before .before .progress1 .ensures) _ (ap standingIn (c .before .before .before .before .before .before .progress .given .1)) _ (c .before .before .before .before .count-of .ensures .0), c .before .before .before .before .before .before .before .before .before .before .keys-of .ensures .1)
+taken-requires c κs =
+    let h = read1-room _ (c .before .before .before .before .before .before .before .before .before .before .before .before .args .enabled) (c .before .before .before .before .before .before .before .before .before .before .before .before .args .bytes .now) _ (c .before .before .before .before .before .before .before .before .before .before .keys-of .ensures .0) (c .before .before .before .before .before .before .before .before .before .if1 .left) _ (c .before .before .before .before .before .before .before .before .progress1 .ensures) _ (ap standingIn (c .before .before .before .before .before .before .progress .given .1)) _ (c .before .before .before .before .count-of .ensures .0) in
+    (omega arith, c .before .before .before .before .before .before .before .before .before .before .keys-of .ensures .1)
 
 returns-2 : tie.Need-returns-2
 returns-2 c = c .refused2 .ensures ∙ read1-unreadable _ _ (c .before .before .before .before .before .before .before .args .bytes .now) _ (c .before .before .before .before .before .keys-of .ensures .0) (c .before .before .before .before .if1 .left) _ (c .before .before .before .progress1 .ensures) (ap standingIn (c .before .enum-told .given .1))

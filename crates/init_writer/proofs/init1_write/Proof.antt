@@ -40,11 +40,11 @@ mul-at c = let h = few c in omega arith
 add-at : tie.Need-add-at
 add-at c = let h = few c in omega arith
 
+add-behind : tie.Need-add-behind
+add-behind c = let h = few c in omega arith
+
 add-n : tie.Need-add-n
 add-n c = let h = few c in omega arith
-
-add-n-2 : tie.Need-add-n-2
-add-n-2 c = let h = few c in omega arith
 
 returns-3 : tie.Need-returns-3
 returns-3 c = init1-no-room _ _ _ _ _ (fit (c .before .before .before)) (listed (c .before)) (omega arith)
@@ -79,9 +79,6 @@ put-ciphers-requires c κs = search needs
 copy-requires-3 : tie.Need-copy-requires-3
 copy-requires-3 c κs = search needs
 
-add-copy : tie.Need-add-copy
-add-copy c = search needs
-
 copy-requires-4 : tie.Need-copy-requires-4
 copy-requires-4 c κs = search needs
 
@@ -103,8 +100,8 @@ init1-write-spec =
     returns-2
     mul-at
     add-at
+    add-behind
     add-n
-    add-n-2
     returns-3
     cast-long
     slice-aggregate-copy
@@ -115,7 +112,6 @@ init1-write-spec =
     copy-requires-2
     put-ciphers-requires
     copy-requires-3
-    add-copy
     copy-requires-4
     same-length
     returns-4)
