@@ -257,10 +257,7 @@ mod tests {
             assert_eq!(written, Err(3), "{list:?}");
         }
         assert_eq!(init2_write(0x23, 0, &[0; 32], &[0; 32], &mut []), Err(3));
-        assert_eq!(
-            init1_write(0x23, &[1, 1], &[0; 32], &[0; 32], out),
-            Ok(77)
-        );
+        assert_eq!(init1_write(0x23, &[1, 1], &[0; 32], &[0; 32], out), Ok(77));
     }
 
     #[test]
@@ -334,7 +331,10 @@ mod tests {
         let mut out = [0; 74];
         init2_write(0x23, 1, &[0; 32], &[0; 32], &mut out).expect("written");
         assert_eq!(number(init2_read(0x23, &[0], &out)), 10);
-        assert_eq!(init2_read(0x23, &[0, 1], &out).map(|read| read.cipher), Ok(1));
+        assert_eq!(
+            init2_read(0x23, &[0, 1], &out).map(|read| read.cipher),
+            Ok(1)
+        );
     }
 
     #[test]
