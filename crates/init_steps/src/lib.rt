@@ -57,9 +57,9 @@ pub fn count_of(s: &[u8]) -> usize
 pub fn has_void(s: &[u8], at: usize, count: usize) -> bool
     ensures { λ r. ⌜ r ≡ voidFrom count (now (s .entry)) at ⌝ }
 {
-    let mut i = 0;
+    let mut looked = 0;
     let mut next = at;
-    while i < count {
+    while looked < count {
         if s.len() <= next {
             return false;
         }
@@ -70,7 +70,7 @@ pub fn has_void(s: &[u8], at: usize, count: usize) -> bool
         if cipher == 0x0000 {
             return true;
         }
-        i += 1;
+        looked += 1;
         next += 2;
     }
     false
@@ -147,14 +147,14 @@ pub fn first_enabled(enabled: Enabled, s: &[u8]) -> Choice
     ensures { λ r. ⌜ choiceOf r ≡ firstThat (isEnabled enabled) (ciphersAt (countAt init1 (now (s .entry))) (now (s .entry)) 9) ⌝ }
 {
     let count = count_of(s);
-    let mut i = 0;
+    let mut passed = 0;
     let mut place = 9;
-    while i < count {
+    while passed < count {
         let cipher = wire_numbers::read_u16(s, place);
         if is_enabled(enabled, cipher) {
             return Choice::Took(cipher);
         }
-        i += 1;
+        passed += 1;
         place += 2;
     }
     Choice::Nothing

@@ -9,10 +9,10 @@ use Rattle.init_steps.proofs.first_enabled.Statement.{statement}
 use Rattle.init_steps.proofs.first_enabled.Tie as tie
 
 abbrev Inv-loop : tie.InvT-loop
-Inv-loop enabled s count i₀ place₀ i place = Passed (isEnabled enabled) s 9 count i place
+Inv-loop enabled s count passed₀ place₀ passed place = Passed (isEnabled enabled) s 9 count passed place
 
 abbrev μ-loop : tie.MeasureT-loop
-μ-loop enabled s count i₀ place₀ i place = count - i
+μ-loop enabled s count passed₀ place₀ passed place = count - passed
 
 count-of-requires : tie.Need-count-of-requires Inv-loop μ-loop
 count-of-requires c κs = search needs
@@ -31,8 +31,8 @@ returns c =
     passed-here _ _ _ _ _ _ (c .before .before .before .before .loop .inv) (omega arith) _ (c .before .before .read-u16 .ensures) (sym (c .before .is-enabled .ensures) ∙ c .if1 .taken)
     ∙ of-init1 _ _ _ (c .before .before .before .before .before .count-of .ensures .0)
 
-add-i : tie.Need-add-i Inv-loop μ-loop
-add-i c = omega arith
+add-passed : tie.Need-add-passed Inv-loop μ-loop
+add-passed c = omega arith
 
 add-place : tie.Need-add-place Inv-loop μ-loop
 add-place c = omega arith
@@ -57,7 +57,7 @@ first-enabled-spec =
     read-u16-requires
     is-enabled-requires
     returns
-    add-i
+    add-passed
     add-place
     loop-less
     loop-again

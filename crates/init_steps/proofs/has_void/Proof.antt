@@ -7,10 +7,10 @@ use Rattle.init_steps.proofs.has_void.Statement.{statement}
 use Rattle.init_steps.proofs.has_void.Tie as tie
 
 abbrev Inv-loop : tie.InvT-loop
-Inv-loop s at count i₀ next₀ i next = Looked s at count i next
+Inv-loop s at count looked₀ next₀ looked next = Looked s at count looked next
 
 abbrev μ-loop : tie.MeasureT-loop
-μ-loop s at count i₀ next₀ i next = count - i
+μ-loop s at count looked₀ next₀ looked next = count - looked
 
 loop-holds : tie.Need-loop-holds Inv-loop μ-loop
 loop-holds c = looked-start _ _ _
@@ -30,8 +30,8 @@ read-u16-requires c κs = search needs
 returns-3 : tie.Need-returns-3 Inv-loop μ-loop
 returns-3 c = looked-here _ _ _ _ _ (c .before .before .before .before .before .loop .inv) (omega arith) (omega arith) _ (c .before .read-u16 .ensures) (omega arith)
 
-add-i : tie.Need-add-i Inv-loop μ-loop
-add-i c = omega arith
+add-looked : tie.Need-add-looked Inv-loop μ-loop
+add-looked c = omega arith
 
 add-next : tie.Need-add-next Inv-loop μ-loop
 add-next c = omega arith
@@ -57,7 +57,7 @@ has-void-spec =
     returns-2
     read-u16-requires
     returns-3
-    add-i
+    add-looked
     add-next
     loop-less
     loop-again
