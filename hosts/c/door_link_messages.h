@@ -75,11 +75,11 @@ struct door_link_init_reply {
 
 /* Writes Init1, with which host A begins a fresh key exchange.
  *   tep      0x23 or 0x24, without v
- *   ciphers  0 to 255 of them, the best first; null is none
+ *   ciphers  1 to 255 of them, none of them 0000, the best first; null is none, refused with 3
  *   nonce    32 bytes, fresh; null is refused with 3
  *   key      this end's public key, 32 or 56 bytes by the TEP; null is refused with 3
  *   out      lent; the message has 41 bytes, two for each cipher, and the key; null is refused with 5
- * Replies: WRITTEN. Refused: 3 for another TEP, another length of nonce or key, or more than 255 ciphers; 5. */
+ * Replies: WRITTEN. Refused: 3 for another TEP, another length of nonce or key, no cipher, more than 255 or one that is 0000; 5. */
 struct door_link_reply door_link_raw_init1_write(uint8_t tep, const uint16_t *ciphers, size_t ciphers_count, const uint8_t *nonce, size_t nonce_length,
                                                  const uint8_t *key, size_t key_length, uint8_t *out, size_t out_length) __asm__("door_link_init1_write");
 static inline __typeof__(door_link_raw_init1_write) door_link_init1_write __asm__("door_link_or_null_init1_write");
@@ -93,7 +93,7 @@ static inline struct door_link_reply door_link_init1_write(uint8_t tep, const ui
 
 /* Writes Init2, host B's answer: the cipher that door_link_init1_read gave, B's nonce and its public key. The message has 42 bytes and the key.
  * A null nonce or key is refused with 3, a null `out` with 5.
- * Replies: WRITTEN. Refused: 3 for another TEP or another length of nonce or key; 5. */
+ * Replies: WRITTEN. Refused: 3 for another TEP, another length of nonce or key, or cipher 0000; 5. */
 struct door_link_reply door_link_raw_init2_write(uint8_t tep, uint16_t cipher, const uint8_t *nonce, size_t nonce_length, const uint8_t *key, size_t key_length,
                                                  uint8_t *out, size_t out_length) __asm__("door_link_init2_write");
 static inline __typeof__(door_link_raw_init2_write) door_link_init2_write __asm__("door_link_or_null_init2_write");
@@ -106,7 +106,8 @@ static inline struct door_link_reply door_link_init2_write(uint8_t tep, uint16_t
 }
 
 /* Reads Init1 at host B from the bytes that have come so far, and takes the first of its ciphers that is enabled here. Bytes behind the message are not read; they
- * belong to the first frame, which begins at `number`. Null is no bytes: refused with 9.
+ * belong to the first frame, which begins at `number`. Null is no bytes: refused with 9. A message lists 1 to 255 ciphers, none of them 0000: else it is refused with 8
+ * as soon as the count, or both bytes of that cipher, have come.
  * Replies: INIT. Refused: 3 for another TEP; 8; 9; 10. */
 struct door_link_init_reply door_link_raw_init1_read(uint8_t tep, bool aes128, bool aes256, bool chacha20, const uint8_t *bytes,
                                                      size_t bytes_length) __asm__("door_link_init1_read");
@@ -117,7 +118,7 @@ static inline struct door_link_init_reply door_link_init1_read(uint8_t tep, bool
 }
 
 /* Reads Init2 at host A, whose own Init1 offered the ciphers `own`. Bytes behind the message are not read. Null bytes are none, refused with 9; a null list is empty,
- * so that a whole message is refused with 10.
+ * so that a whole message is refused with 10. An Init2 with cipher 0000 is refused with 8, whatever `own` is.
  * Replies: INIT. Refused: 3 for another TEP or more than 255 ciphers; 8; 9; 10 where the cipher is none of them. */
 struct door_link_init_reply door_link_raw_init2_read(uint8_t tep, const uint16_t *own, size_t own_count, const uint8_t *bytes,
                                                      size_t bytes_length) __asm__("door_link_init2_read");

@@ -26,7 +26,8 @@ static const uint8_t some[56] = {7};
 
 /* Null counts as length 0: of Init messages. */
 static void init_nulls(size_t n) {
-    uint8_t out[128], again[128];
+    static const uint16_t void_cipher[2] = {DOOR_LINK_AES128_GCM, 0};
+    uint8_t out[128];
     const uint8_t tep = DOOR_LINK_CURVE25519;
     memset(out, 0xee, sizeof out);
     EXPECT(says(door_link_init1_write(tep, ciphers, 1, NULL, n, some, 32, out, 128), DOOR_LINK_REFUSED, DOOR_LINK_UNFIT));
@@ -38,10 +39,12 @@ static void init_nulls(size_t n) {
     EXPECT(says(door_link_init2_write(tep, 1, some, 32, some, 32, NULL, n), DOOR_LINK_REFUSED, DOOR_LINK_NO_ROOM));
     for (size_t i = 0; i < sizeof out; i++) EXPECT(out[i] == 0xee);
 
-    /* No ciphers: the same bytes as with an empty list. */
-    EXPECT(says(door_link_init1_write(tep, NULL, n, some, 32, some, 32, out, 128), DOOR_LINK_WRITTEN, 73));
-    EXPECT(says(door_link_init1_write(tep, ciphers, 0, some, 32, some, 32, again, 128), DOOR_LINK_WRITTEN, 73));
-    EXPECT(memcmp(out, again, 73) == 0);
+    /* No ciphers: refused as an empty list is, and so is a cipher 0000. */
+    EXPECT(says(door_link_init1_write(tep, NULL, n, some, 32, some, 32, out, 128), DOOR_LINK_REFUSED, DOOR_LINK_UNFIT));
+    EXPECT(says(door_link_init1_write(tep, ciphers, 0, some, 32, some, 32, out, 128), DOOR_LINK_REFUSED, DOOR_LINK_UNFIT));
+    EXPECT(says(door_link_init1_write(tep, void_cipher, 2, some, 32, some, 32, out, 128), DOOR_LINK_REFUSED, DOOR_LINK_UNFIT));
+    EXPECT(says(door_link_init2_write(tep, 0, some, 32, some, 32, out, 128), DOOR_LINK_REFUSED, DOOR_LINK_UNFIT));
+    for (size_t i = 0; i < sizeof out; i++) EXPECT(out[i] == 0xee);
 
     struct door_link_init_reply read = door_link_init1_read(tep, true, true, true, NULL, n);
     EXPECT(read.kind == DOOR_LINK_REFUSED && read.number == DOOR_LINK_INCOMPLETE && !read.count && !read.cipher);

@@ -55,7 +55,7 @@ Init bytes that some continuation makes readable: 9
   read Init1 TEP 23 enabled 0001 bytes none -> refused 9
   read Init1 TEP 23 enabled 0001 bytes 15 10 -> refused 9
   read Init1 TEP 23 enabled 0001 bytes 15 10 1a 0e 00 00 10 -> refused 9
-  read Init1 TEP 23 enabled 0001 bytes 15 10 1a 0e 00 00 00 49 -> refused 9
+  read Init1 TEP 23 enabled 0001 bytes 15 10 1a 0e 00 00 00 4b -> refused 9
   read Init1 TEP 23 enabled 0001 bytes 15 10 1a 0e 00 00 00 4b 01 00 01 a0 .. bf 40 .. 5e -> refused 9
   read Init2 TEP 23 offered 00 01 bytes 09 71 05 e0 00 00 00 4a -> refused 9
 Init bytes that no continuation makes readable: 8
@@ -63,7 +63,7 @@ Init bytes that no continuation makes readable: 8
   read Init1 TEP 23 enabled 0001 bytes 15 10 1a 0e 01 -> refused 8
   read Init1 TEP 23 enabled 0001 bytes 15 10 1a 0e 00 00 11 -> refused 8
   read Init1 TEP 23 enabled 0001 bytes 15 10 1a 0e 00 00 10 01 -> refused 8
-  read Init1 TEP 23 enabled 0001 bytes 15 10 1a 0e 00 00 00 48 -> refused 8
+  read Init1 TEP 23 enabled 0001 bytes 15 10 1a 0e 00 00 00 4a -> refused 8
   read Init1 TEP 23 enabled 0001 bytes 15 10 1a 0e 00 00 00 4b 02 -> refused 8
   read Init1 TEP 23 enabled 0001 bytes 09 71 05 e0 00 00 00 4a 00 01 a0 .. bf 40 .. 5f -> refused 8
   read Init2 TEP 23 offered 00 01 bytes 09 71 05 e0 00 00 00 49 -> refused 8
@@ -77,9 +77,59 @@ Init for TEP 21, and a key of another length: 3
     );
 }
 
+fn void_ciphers() {
+    run::table(
+        b"\
+Init1 with no ciphers: 8 with its count, though bytes are missing
+  read Init1 TEP 23 enabled 0001 bytes 15 10 1a 0e 00 00 00 4b 00 -> refused 8
+  read Init1 TEP 23 enabled 0001 bytes 15 10 1a 0e 00 00 00 49 00 a0 .. bf 40 .. 5f -> refused 8
+  read Init1 TEP 23 enabled 0001 bytes 15 10 1a 0e 00 00 00 4b 00 a0 .. bf 40 .. 5f 00 00 -> refused 8
+  read Init1 TEP 24 enabled 0001 bytes 15 10 1a 0e 00 00 00 62 -> refused 8
+  read Init1 TEP 24 enabled 0001 bytes 15 10 1a 0e 00 00 00 63 -> refused 9
+  read Init1 TEP 24 enabled 0001 bytes 15 10 1a 0e 00 00 00 63 00 -> refused 8
+cipher 0000: 8 with its second byte, the first cipher or another
+  read Init1 TEP 23 enabled 0001 bytes 15 10 1a 0e 00 00 00 4b 01 00 -> refused 9
+  read Init1 TEP 23 enabled 0001 bytes 15 10 1a 0e 00 00 00 4b 01 00 01 -> refused 9
+  read Init1 TEP 23 enabled 0001 bytes 15 10 1a 0e 00 00 00 4b 01 00 00 -> refused 8
+  read Init1 TEP 23 enabled 0001 bytes 15 10 1a 0e 00 00 00 4d 02 00 01 00 -> refused 9
+  read Init1 TEP 23 enabled 0001 bytes 15 10 1a 0e 00 00 00 4d 02 00 01 00 00 -> refused 8
+  read Init1 TEP 23 enabled 0001 bytes 15 10 1a 0e 00 00 00 4d 02 00 01 00 00 a0 .. bf 40 .. 5f -> refused 8
+  read Init2 TEP 23 offered 00 01 bytes 09 71 05 e0 00 00 00 4a 00 -> refused 9
+  read Init2 TEP 23 offered 00 01 bytes 09 71 05 e0 00 00 00 4a 00 01 -> refused 9
+  read Init2 TEP 23 offered 00 01 bytes 09 71 05 e0 00 00 00 4a 00 00 -> refused 8
+  read Init2 TEP 23 offered 00 00 bytes 09 71 05 e0 00 00 00 4a 00 00 a0 .. bf 40 .. 5f -> refused 8
+",
+    );
+}
+
+fn lists() {
+    run::table(
+        b"\
+two zeros behind the ciphers, and in the list that A offered, are no cipher
+  read Init1 TEP 23 enabled 0001 bytes 15 10 1a 0e 00 00 00 4b 01 00 01 00 00 -> refused 9
+  read Init1 TEP 23 enabled 0001 bytes 15 10 1a 0e 00 00 00 4d 01 00 01 a0 .. bf 40 .. 5f 00 00 -> cipher 0001 count 1 length 77: a0 .. bf 40 .. 5f
+  read Init2 TEP 23 offered 00 00 00 01 bytes 09 71 05 e0 00 00 00 4a 00 01 a0 .. bf 40 .. 5f -> cipher 0001 count 1 length 74: a0 .. bf 40 .. 5f
+  read Init2 TEP 23 offered 00 00 bytes 09 71 05 e0 00 00 00 4a 00 01 a0 .. bf 40 .. 5f -> refused 10
+  read Init2 TEP 23 offered none bytes 09 71 05 e0 00 00 00 4a 00 01 a0 .. bf 40 .. 5f -> refused 10
+a repeated cipher is written and read
+  write Init1 TEP 23 ciphers 00 01 00 01 nonce a0 .. bf key 40 .. 5f into 128 -> wrote 77: 15 10 1a 0e 00 00 00 4d 02 00 01 00 01 a0 .. bf 40 .. 5f
+  read Init1 TEP 23 enabled 0001 bytes 15 10 1a 0e 00 00 00 4d 02 00 01 00 01 a0 .. bf 40 .. 5f -> cipher 0001 count 2 length 77: a0 .. bf 40 .. 5f
+no ciphers and cipher 0000 are not written: 3, before 5
+  write Init1 TEP 23 ciphers none nonce a0 .. bf key 40 .. 5f into 128 -> refused 3
+  write Init1 TEP 23 ciphers 00 00 nonce a0 .. bf key 40 .. 5f into 128 -> refused 3
+  write Init1 TEP 23 ciphers 00 01 00 00 nonce a0 .. bf key 40 .. 5f into 128 -> refused 3
+  write Init1 TEP 23 ciphers none nonce a0 .. bf key 40 .. 5f into 0 -> refused 3
+  write Init2 TEP 23 taken 00 00 nonce a0 .. bf key 40 .. 5f into 128 -> refused 3
+  write Init2 TEP 23 taken 00 00 nonce a0 .. bf key 40 .. 5f into 0 -> refused 3
+",
+    );
+}
+
 pub fn table() {
     curve25519();
     curve448();
     ciphers();
     parts();
+    void_ciphers();
+    lists();
 }

@@ -14,10 +14,11 @@ use Rattle.wire.specs.Number.{bigEndian}
 use Rattle.wire.specs.NumberLaws.{length-big}
 use Rattle.eno.specs.Tep.{keyLength}
 use Rattle.eno.specs.Option.{isListed}
-use Rattle.init_layout.specs.Layout.{Init, init1, init2, magicOf, Message, messageWith, countField, cipherBytes, Ciphers, fieldsOf, lengthOf, encoded, mostLength, Fits, Readable}
+use Rattle.init_layout.specs.Layout.{Init, init1, init2, magicOf, Message, messageWith, countField, cipherBytes, Ciphers, isVoid, fieldsOf, lengthOf, encoded, mostLength, Fits, Readable}
 use Rattle.init_layout.specs.LayoutLaws.{length-encoded}
-use Rattle.init_layout.specs.Reading.{countAt, fieldsEnd, Standing, unreadable, incomplete, whole, standingOf, firstThat, isEnabled, inInit1, Says, took, refusedWith, Reading, zeros, readingAs, refusedReading, padded, withCipher, answerTo, readAs, reading, readFor, readInit1, readInit2}
-use Rattle.init_layout.specs.StandingLaws.{stands-whole}
+use Rattle.init_layout.specs.Reading.{Standing, unreadable, incomplete, whole, standingOf, firstThat, isEnabled, inInit1, Says, took, refusedWith, Reading, zeros, readingAs, refusedReading, padded, withCipher, answerTo, readAs, reading, readFor, readInit1, readInit2}
+use Rattle.init_layout.specs.VoidLaws.{or-false}
+use Rattle.init_layout.specs.StandingOfLaws.{of-whole}
 use Rattle.init_layout.specs.ReadableLaws.{readable-reading, whole-readable}
 use Rattle.init_layout.specs.declared.Enabled.{Enabled}
 
@@ -47,6 +48,11 @@ pub record In (c : ℕ) (l : List ℕ) : Type 0 where
   pub after : List ℕ
   pub place : l ≡ before ++ (c ∷ after)
 
+-- no cipher of a list is 0000
+abbrev pub NoneVoid : List ℕ → Type 0
+NoneVoid [] = Unit {0}
+NoneVoid (c ∷ l) = (c ≡ 0x0000 → ⊥) × NoneVoid l
+
 -- Init1: magic, 4-byte length, 1-byte cipher count, 2-byte ciphers, nonce, public key, later bytes
 abbrev pub init1With : ℕ → ℕ → List ℕ → List ℕ → List ℕ → List ℕ → List ℕ
 init1With n count ciphers nonce key ignored = 0x15 ∷ 0x10 ∷ 0x1a ∷ 0x0e ∷ (bigEndian 4 n ++ (count ∷ (cipherBytes ciphers ++ (nonce ++ (key ++ ignored)))))
@@ -67,8 +73,9 @@ pub record Init1Taken (t : ℕ) (enabled : Enabled) (p : List ℕ) (cipher count
   pub length-is : n ≡ length message
   pub short : n ≤ 4096
   pub count-is : count ≡ length ciphers
-  pub count-fits : count ≤ 255
+  pub count-fits : (1 ≤ count) × (count ≤ 255)
   pub each : Ciphers ciphers
+  pub named : NoneVoid ciphers
   pub nonce-long : length nonce ≡ 32
   pub key-long : KeyOf t (length key)
   pub key-given : padded-key ≡ key ++ zeros (56 - length key)
@@ -86,6 +93,7 @@ pub record Init2Taken (t : ℕ) (own p : List ℕ) (cipher count n : ℕ) (nonce
   pub short : n ≤ 4096
   pub count-is : count ≡ 1
   pub each : Ciphers (cipher ∷ [])
+  pub named : cipher ≡ 0x0000 → ⊥
   pub nonce-long : length nonce ≡ 32
   pub key-long : KeyOf t (length key)
   pub key-given : padded-key ≡ key ++ zeros (56 - length key)
@@ -215,6 +223,16 @@ own-at c (x ∷ l) after = or-right (eqb x c) (isListed c (l ++ (c ∷ after))) 
 own-back : (c : ℕ) (l : List ℕ) → In c l → isListed c l ≡ true
 own-back c l f = ap (isListed c) (f .place) ∙ own-at c (f .before) (f .after)
 
+none-void : (l : List ℕ) → isVoid l ≡ false → NoneVoid l
+unfolding isVoid isListed
+none-void [] e = tt
+none-void (c ∷ l) e = let q = or-false (eqb c 0) (isListed 0 l) e in (eqb-false c 0 (q .0), none-void l (q .1))
+
+void-back : (l : List ℕ) → NoneVoid l → isVoid l ≡ false
+unfolding isVoid isListed
+void-back [] n = refl
+void-back (c ∷ l) n = ap (λ b. b || isListed 0 l) (ne-eqb c 0 (n .0)) ∙ void-back l (n .1)
+
 one-cipher : (own : List ℕ) (c : ℕ) (l : List ℕ) → length l ≡ 1 → firstThat (inInit1 own) l ≡ some c → (l ≡ c ∷ []) × (isListed c own ≡ true)
 unfolding firstThat inInit1
 one-cipher own c [] n h = absurd (omega arith)
@@ -274,14 +292,14 @@ module _ (i : Init) (keys : ℕ) (test : ℕ → Bool) (p : List ℕ) (c count n
           }
 
   gives : Bytes p → reading i keys test p ≡ Gave → Taken i keys test p c count n nonce k
-  unfolding reading standingOf readAs
+  unfolding reading readAs
   gives bytes e = go (standingOf i keys p) refl e
     where
       go : (v : Standing) → standingOf i keys p ≡ v → readAs i keys test p v ≡ Gave → Taken i keys test p c count n nonce k
       go unreadable q a = absurd (refused-not 8 a)
       go incomplete q a = absurd (refused-not 9 a)
       go (whole m) q a =
-          let r = whole-readable i keys p bytes (stands-whole (magicOf i) (fieldsEnd i keys (countAt i p)) p m q .0) in
+          let r = whole-readable i keys p bytes (of-whole i keys p m q .0) in
           from-message r (sym (answer-of (r .message) (r .rest) (r .fits) (r .layout)) ∙ e)
 
   given : Taken i keys test p c count n nonce k → reading i keys test p ≡ Gave
@@ -330,8 +348,9 @@ module _ (t : ℕ) (enabled : Enabled) (p : List ℕ) (c count n : ℕ) (nonce k
         length-is = r .length-is ∙ sym (length-encoded init1 m);
         short = omega (arith, r .length-is, r .fits .short);
         count-is = r .count-is;
-        count-fits = omega (arith, r .count-is, r .fits .count);
+        count-fits = (omega (arith, r .count-is, r .fits .count .0), omega (arith, r .count-is, r .fits .count .1));
         each = r .fits .each;
+        named = none-void (m .ciphers) (r .fits .named);
         nonce-long = ap length (r .nonce-is) ∙ r .fits .nonce;
         key-long = key-of t (length (m .key)) h (r .fits .key);
         key-given = r .key-is;
@@ -352,8 +371,9 @@ module _ (t : ℕ) (enabled : Enabled) (p : List ℕ) (c count n : ℕ) (nonce k
         rest = r .rest;
         fits =
             record {
-              count = omega (arith, r .count-is, r .count-fits);
+              count = (omega (arith, r .count-is, r .count-fits .0), omega (arith, r .count-is, r .count-fits .1));
               each = r .each;
+              named = void-back (r .ciphers) (r .named);
               nonce = r .nonce-long;
               key = key-back t (length (r .key)) (r .key-long);
               short = omega (arith, long, r .short);
@@ -398,6 +418,7 @@ module _ (t : ℕ) (own p : List ℕ) (c count n : ℕ) (nonce k : List ℕ) whe
         short = omega (arith, r .length-is, r .fits .short);
         count-is = r .count-is ∙ r .fits .count;
         each = subst Ciphers (one .0) (r .fits .each);
+        named = none-void (c ∷ []) (subst (λ l. isVoid l ≡ false) (one .0) (r .fits .named)) .0;
         nonce-long = ap length (r .nonce-is) ∙ r .fits .nonce;
         key-long = key-of t (length (m .key)) h (r .fits .key);
         key-given = r .key-is;
@@ -415,7 +436,15 @@ module _ (t : ℕ) (own p : List ℕ) (c count n : ℕ) (nonce k : List ℕ) whe
       record {
         message = m;
         rest = r .rest;
-        fits = record { count = refl; each = r .each; nonce = r .nonce-long; key = key-back t (length (r .key)) (r .key-long); short = omega (arith, long, r .short) };
+        fits =
+            record {
+              count = refl;
+              each = r .each;
+              named = void-back (c ∷ []) (r .named, tt);
+              nonce = r .nonce-long;
+              key = key-back t (length (r .key)) (r .key-long);
+              short = omega (arith, long, r .short);
+            };
         layout = ap (λ l. l ++ r .rest) same ∙ r .at-hand;
         first = ap (λ b. cond b (some c) none) (own-back c own (r .sent));
         count-is = r .count-is;

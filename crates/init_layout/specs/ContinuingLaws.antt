@@ -1,27 +1,22 @@
 -- Which bytes have a readable continuation. Assumes nothing.
 use Prim.Native.Nat.{ℕ, zero, suc, _+_, _*_, _-_, _≤_, _<_}
-use mathlib.Core.Path.{_≡_, refl, sym, _∙_, ap, ap₂, subst}
+use mathlib.Core.Path.{_≡_, refl, sym, _∙_, ap, subst}
 use mathlib.Core.List.{List, [], _∷_, _++_, append-assoc, append-nil}
-use mathlib.Core.Bool.{true}
+use mathlib.Core.Bool.{true, false≢true}
 use native.Mathlib.Decide.{decLt}
 use native.Mathlib.Omega.{arith}
-use lib.ListN.{length, getD, take, drop, length-append, length-drop, length-replicate, take-append-drop}
-use lib.Seq.{take-all, take-at, take-take, take-append-le, drop-append-le}
-use Rattle.wire.specs.Bytes.{Bytes, bytesFrom, part, sameBytes}
-use Rattle.wire.specs.ByteLaws.{bytes-from-part, same-yes, same-eq}
+use lib.ListN.{length, getD, take, drop, length-append, length-drop, take-append-drop}
+use lib.Seq.{take-all, take-at, take-take, take-append-le}
+use Rattle.wire.specs.Bytes.{Bytes, bytesFrom, sameBytes}
+use Rattle.wire.specs.ByteLaws.{same-yes, same-eq}
 use Rattle.wire.specs.Number.{number, numberAfter, numberAt}
 use Rattle.init_layout.specs.Layout.{Init, init1, init2, magicOf, mostLength, Readable, Continues}
 use Rattle.init_layout.specs.LayoutLaws.{length-magic}
-use Rattle.init_layout.specs.Reading.{agrees, lengthAt, countAt, ciphersFrom, nonceFrom, fieldsEnd, zeros}
-use Rattle.init_layout.specs.StandingLaws.{Hopeful, Whole}
+use Rattle.init_layout.specs.Reading.{agrees, lengthAt, countAt, ciphersFrom, nonceFrom, fieldsEnd, voidAt}
+use Rattle.init_layout.specs.FieldLaws.{number-settled}
+use Rattle.init_layout.specs.VoidLaws.{ones, are-ones, count-ones, clear-ones, clear-less, count-less, clear-short}
+use Rattle.init_layout.specs.StandingOfLaws.{HopefulFor, WholeFor}
 use Rattle.init_layout.specs.ReadableLaws.{readable-found, whole-readable}
-
--- the bytes at hand may still be readable
-abbrev pub HopefulFor : Init → ℕ → List ℕ → Type 0
-HopefulFor i keys p = Hopeful (magicOf i) (fieldsEnd i keys (countAt i p)) p
-
-abbrev pub WholeFor : Init → ℕ → List ℕ → Type 0
-WholeFor i keys p = Whole (magicOf i) (fieldsEnd i keys (countAt i p)) p
 
 -- fewer bytes read as less
 getD-more : (p q : List ℕ) (j : ℕ) → getD p j 0 ≤ getD (p ++ q) j 0
@@ -40,19 +35,10 @@ length-more : (p q : List ℕ) → lengthAt p ≤ lengthAt (p ++ q)
 unfolding lengthAt numberAt number
 length-more p q = number-more 4 0 0 p q 4 (omega arith)
 
-count-more : (i : Init) (p q : List ℕ) → countAt i p ≤ countAt i (p ++ q)
-unfolding countAt
-count-more init1 p q = getD-more p q 8
-count-more init2 p q = omega arith
-
 -- the length is settled once its bytes are at hand
 length-settled : (p q : List ℕ) → 8 ≤ length p → lengthAt (p ++ q) ≡ lengthAt p
-unfolding lengthAt numberAt part
-length-settled p q h =
-    ap number
-    (bytes-from-part 4 (p ++ q) 4 (omega (arith, length-append p q))
-    ∙ (ap (take 4) (drop-append-le 4 p q (omega arith))
-    ∙ (take-append-le 4 (drop 4 p) q (omega (arith, length-drop 4 p)) ∙ sym (bytes-from-part 4 p 4 h))))
+unfolding lengthAt
+length-settled p q h = number-settled 4 4 p q h
 
 -- the magic, with fewer bytes
 same-agrees : (m p : List ℕ) → take (length m) p ≡ take (length p) m → agrees m p ≡ true
@@ -87,71 +73,52 @@ pub hopeful-less : (i : Init) (keys : ℕ) (p q : List ℕ) → HopefulFor i key
 unfolding fieldsEnd nonceFrom
 hopeful-less i keys p q h =
     record {
-      magic = magic-less (magicOf i) p q (h .magic);
-      most = omega (arith, length-more p q, h .most);
-      enough = λ e.
-          let f = h .enough (omega (arith, length-append p q)) in
-          omega (arith, length-settled p q e, count-more i p q);
+      fields =
+          record {
+            magic = magic-less (magicOf i) p q (h .fields .magic);
+            most = omega (arith, length-more p q, h .fields .most);
+            enough = λ e.
+                let f = h .fields .enough (omega (arith, length-append p q)) in
+                omega (arith, length-settled p q e, count-less i p q (h .clear));
+          };
+      clear = clear-less i p q (h .clear);
     }
 
--- zeros that follow read as what is not there
-getD-zeros : (p : List ℕ) (k j : ℕ) → getD (p ++ zeros k) j 0 ≡ getD p j 0
-unfolding zeros
-getD-zeros [] zero j = refl
-getD-zeros [] (suc k) zero = refl
-getD-zeros [] (suc k) (suc j) = getD-zeros [] k j
-getD-zeros (x ∷ p) k zero = refl
-getD-zeros (x ∷ p) k (suc j) = getD-zeros p k j
-
-bytes-zeros : (w : ℕ) (p : List ℕ) (k j : ℕ) → bytesFrom w (p ++ zeros k) j ≡ bytesFrom w p j
-unfolding bytesFrom
-bytes-zeros zero p k j = refl
-bytes-zeros (suc w) p k j = ap₂ (λ x l. x ∷ l) (getD-zeros p k j) (bytes-zeros w p k (j + 1))
-
-length-zeros : (p : List ℕ) (k : ℕ) → lengthAt (p ++ zeros k) ≡ lengthAt p
-unfolding lengthAt numberAt
-length-zeros p k = ap number (bytes-zeros 4 p k 4)
-
-count-zeros : (i : Init) (p : List ℕ) (k : ℕ) → countAt i (p ++ zeros k) ≡ countAt i p
-unfolding countAt
-count-zeros init1 p k = getD-zeros p k 8
-count-zeros init2 p k = refl
-
-are-zeros : (k : ℕ) → length (zeros k) ≡ k
-unfolding zeros
-are-zeros k = length-replicate k 0
-
-zeros-bytes : (k : ℕ) → Bytes (zeros k)
-unfolding zeros
-zeros-bytes zero = tt
-zeros-bytes (suc k) = (omega arith, zeros-bytes k)
+ones-bytes : (k : ℕ) → Bytes (ones k)
+unfolding ones
+ones-bytes zero = tt
+ones-bytes (suc k) = (omega arith, ones-bytes k)
 
 pub bytes-both : (p q : List ℕ) → Bytes p → Bytes q → Bytes (p ++ q)
 bytes-both [] q b c = c
 bytes-both (x ∷ p) q b c = (b .0, bytes-both p q (b .1) c)
 
--- with its length at hand a message is filled up with zeros
-filled-up : (i : Init) (keys : ℕ) (p : List ℕ) → 8 ≤ length p → HopefulFor i keys p → WholeFor i keys (p ++ zeros (lengthAt p - length p))
+-- with its length at hand a message is filled up with ones
+filled-up : (i : Init) (keys : ℕ) (p : List ℕ) → 8 ≤ length p → HopefulFor i keys p → WholeFor i keys (p ++ ones (lengthAt p - length p))
 filled-up i keys p e h =
     let k = lengthAt p - length p in
-    let l = length-zeros p k in
-    let n = length-append p (zeros k) in
-    let z = are-zeros k in
+    let l = length-settled p (ones k) e in
+    let n = length-append p (ones k) in
+    let z = are-ones k in
     record {
-      hopeful =
+      fields =
           record {
-            magic = magic-more (magicOf i) p (zeros k) (omega (arith, length-magic i)) (h .magic);
-            most = omega (arith, h .most);
-            enough = λ _. omega (arith, h .enough e, ap (fieldsEnd i keys) (count-zeros i p k));
+            hopeful =
+                record {
+                  magic = magic-more (magicOf i) p (ones k) (omega (arith, length-magic i)) (h .fields .magic);
+                  most = omega (arith, h .fields .most);
+                  enough = λ _. omega (arith, h .fields .enough e, ap (fieldsEnd i keys) (count-ones i p k));
+                };
+            head = omega arith;
+            all = omega arith;
           };
-      head = omega arith;
-      all = omega arith;
+      clear = clear-ones i p k (h .clear);
     }
 
 pub continues-with-length : (i : Init) (keys : ℕ) (p : List ℕ) → Bytes p → 8 ≤ length p → HopefulFor i keys p → Continues i keys p
 continues-with-length i keys p b e h =
     let k = lengthAt p - length p in
-    record { more = zeros k; readable = whole-readable i keys (p ++ zeros k) (bytes-both p (zeros k) b (zeros-bytes k)) (filled-up i keys p e h) }
+    record { more = ones k; readable = whole-readable i keys (p ++ ones k) (bytes-both p (ones k) b (ones-bytes k)) (filled-up i keys p e h) }
 
 pub continues-after : (i : Init) (keys : ℕ) (p q : List ℕ) → Continues i keys (p ++ q) → Continues i keys p
 continues-after i keys p q c = record { more = q ++ c .more; readable = subst (Readable i keys) (append-assoc p q (c .more)) (c .readable) }
@@ -162,7 +129,7 @@ unfolding magicOf lengthAt numberAt number numberAfter bytesFrom
 head-length init1 a b c d = omega arith
 head-length init2 a b c d = omega arith
 
-head-fields : (i : Init) (keys a b c d : ℕ) → fieldsEnd i keys (countAt i (magicOf i ++ (a ∷ b ∷ c ∷ d ∷ []))) ≤ 42 + keys
+head-fields : (i : Init) (keys a b c d : ℕ) → fieldsEnd i keys (countAt i (magicOf i ++ (a ∷ b ∷ c ∷ d ∷ []))) ≤ 43 + keys
 unfolding magicOf fieldsEnd nonceFrom ciphersFrom countAt
 head-fields init1 keys a b c d = omega arith
 head-fields init2 keys a b c d = omega arith
@@ -194,7 +161,7 @@ bytes-drop (suc n) [] b = tt
 bytes-drop (suc n) (x ∷ p) b = bytes-drop n p (b .1)
 
 module _ (i : Init) (keys : ℕ) (few : keys ≤ 56) where
-  head-continues : (a b c d : ℕ) → Bytes (a ∷ b ∷ c ∷ d ∷ []) → 98 ≤ ((a * 256 + b) * 256 + c) * 256 + d → ((a * 256 + b) * 256 + c) * 256 + d ≤ 4096
+  head-continues : (a b c d : ℕ) → Bytes (a ∷ b ∷ c ∷ d ∷ []) → 99 ≤ ((a * 256 + b) * 256 + c) * 256 + d → ((a * 256 + b) * 256 + c) * 256 + d ≤ 4096
       → Continues i keys (magicOf i ++ (a ∷ b ∷ c ∷ d ∷ []))
   unfolding mostLength
   head-continues a b c d y low high =
@@ -203,9 +170,13 @@ module _ (i : Init) (keys : ℕ) (few : keys ≤ 56) where
       let m = length-magic i in
       continues-with-length i keys (magicOf i ++ t) (bytes-both (magicOf i) t (head-bytes i) y) (omega arith)
       (record {
-        magic = same-agrees (magicOf i) (magicOf i ++ t) (take-at (magicOf i) t (length (magicOf i)) refl ∙ sym (take-all (length (magicOf i ++ t)) (magicOf i) (omega arith)));
-        most = omega (arith, head-length i a b c d);
-        enough = λ _. omega (arith, head-length i a b c d, head-fields i keys a b c d);
+        fields =
+            record {
+              magic = same-agrees (magicOf i) (magicOf i ++ t) (take-at (magicOf i) t (length (magicOf i)) refl ∙ sym (take-all (length (magicOf i ++ t)) (magicOf i) (omega arith)));
+              most = omega (arith, head-length i a b c d);
+              enough = λ _. omega (arith, head-length i a b c d, head-fields i keys a b c d);
+            };
+        clear = clear-short i (magicOf i ++ t) (omega arith);
       })
 
   further : (t q : List ℕ) → Continues i keys (magicOf i ++ (t ++ q)) → Continues i keys (magicOf i ++ t)
@@ -243,16 +214,16 @@ module _ (i : Init) (keys : ℕ) (few : keys ≤ 56) where
   unfolding mostLength
   length-continues p b low high h =
       let n = length-magic i in
-      let f : take (length (magicOf i)) p ≡ magicOf i = agrees-same (magicOf i) p (h .magic) ∙ take-all (length p) (magicOf i) (omega arith) in
+      let f : take (length (magicOf i)) p ≡ magicOf i = agrees-same (magicOf i) p (h .fields .magic) ∙ take-all (length p) (magicOf i) (omega arith) in
       let g : magicOf i ++ drop 4 p ≡ p = ap (λ l. l ++ drop 4 p) (sym f ∙ ap (λ k. take k p) n) ∙ take-append-drop 4 p in
-      subst (Continues i keys) g (tail-continues (drop 4 p) (bytes-drop 4 p b) (omega (arith, length-drop 4 p)) (omega (arith, ap lengthAt g, h .most)))
+      subst (Continues i keys) g (tail-continues (drop 4 p) (bytes-drop 4 p b) (omega (arith, length-drop 4 p)) (omega (arith, ap lengthAt g, h .fields .most)))
 
   -- the bytes that may still be readable are those with a readable continuation
   pub hopeful-continues : (p : List ℕ) → Bytes p → HopefulFor i keys p → Continues i keys p
   hopeful-continues p b h = elim (decLt (length p) 8) [
     | no e ↦ continues-with-length i keys p b (omega arith) h
     | yes e ↦ elim (decLt (length p) 4) [
-      | yes f ↦ start-continues p f (h .magic)
+      | yes f ↦ start-continues p f (h .fields .magic)
       | no f ↦ length-continues p b (omega arith) e h
     ]
   ]
@@ -260,5 +231,12 @@ module _ (i : Init) (keys : ℕ) (few : keys ≤ 56) where
 pub readable-whole : (i : Init) (keys : ℕ) (p : List ℕ) → Readable i keys p → WholeFor i keys p
 readable-whole i keys p r = subst (WholeFor i keys) (r .layout) (readable-found i keys (r .message) (r .rest) (r .fits) .is-whole)
 
+whole-hopeful : (i : Init) (keys : ℕ) (p : List ℕ) → WholeFor i keys p → HopefulFor i keys p
+whole-hopeful i keys p w = record { fields = w .fields .hopeful; clear = w .clear }
+
 pub continues-hopeful : (i : Init) (keys : ℕ) (p : List ℕ) → Continues i keys p → HopefulFor i keys p
-continues-hopeful i keys p c = hopeful-less i keys p (c .more) (readable-whole i keys (p ++ c .more) (c .readable) .hopeful)
+continues-hopeful i keys p c = hopeful-less i keys p (c .more) (whole-hopeful i keys (p ++ c .more) (readable-whole i keys (p ++ c .more) (c .readable)))
+
+-- where the list is empty or void no continuation is readable
+pub void-unreadable : (i : Init) (keys : ℕ) (p : List ℕ) → voidAt i p ≡ true → Continues i keys p → ⊥
+void-unreadable i keys p e c = false≢true (sym (continues-hopeful i keys p c .clear) ∙ e)

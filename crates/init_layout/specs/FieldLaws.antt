@@ -1,10 +1,10 @@
 -- Fields of a list of bytes: found where they stand, and the whole list as its parts in a row. Assumes nothing.
-use Prim.Native.Nat.{ℕ, zero, suc, _+_, _*_, _<_, _^_}
+use Prim.Native.Nat.{ℕ, zero, suc, _+_, _*_, _≤_, _<_, _^_}
 use mathlib.Core.Path.{_≡_, refl, sym, _∙_, ap, ap₂}
 use mathlib.Core.List.{List, [], _∷_, _++_}
 use native.Mathlib.Omega.{arith}
-use lib.ListN.{length, getD, take, drop, length-append, take-append-drop}
-use lib.Seq.{take-at, drop-at, drop-drop}
+use lib.ListN.{length, getD, take, drop, length-append, length-drop, take-append-drop}
+use lib.Seq.{take-at, drop-at, drop-drop, take-append-le, drop-append-le}
 use Rattle.wire.specs.Bytes.{Bytes, bytesFrom, part}
 use Rattle.wire.specs.ByteLaws.{bytes-from-part, bytes-from-bytes, length-bytes-from}
 use Rattle.wire.specs.Number.{bigEndian, number, numberAt}
@@ -23,6 +23,15 @@ field-at a v r i n p q =
 pub number-field : (a r : List ℕ) (i w x : ℕ) → length a ≡ i → x < 256 ^ w → numberAt w (a ++ (bigEndian w x ++ r)) i ≡ x
 unfolding numberAt
 number-field a r i w x p h = ap number (field-at a (bigEndian w x) r i w p (length-big w x)) ∙ number-big-whole w x h
+
+-- a number is settled once its bytes are at hand
+pub number-settled : (w i : ℕ) (p q : List ℕ) → i + w ≤ length p → numberAt w (p ++ q) i ≡ numberAt w p i
+unfolding numberAt part
+number-settled w i p q h =
+    ap number
+    (bytes-from-part w (p ++ q) i (omega (arith, length-append p q))
+    ∙ (ap (take w) (drop-append-le i p q (omega arith))
+    ∙ (take-append-le w (drop i p) q (omega (arith, length-drop i p)) ∙ sym (bytes-from-part w p i h))))
 
 -- the bytes of a number that stands at a place
 pub number-bytes : (w i : ℕ) (p : List ℕ) → Bytes p → bigEndian w (numberAt w p i) ≡ bytesFrom w p i

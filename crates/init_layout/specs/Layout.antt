@@ -2,8 +2,10 @@
 use Prim.Native.Nat.{ℕ, _+_, _≤_, _<_}
 use mathlib.Core.Path.{_≡_}
 use mathlib.Core.List.{List, [], _∷_, _++_}
+use mathlib.Core.Bool.{Bool, false}
 use lib.ListN.{length}
 use Rattle.wire.specs.Number.{bigEndian}
+use Rattle.eno.specs.Option.{isListed}
 
 -- the two messages
 pub data Init : Type 0 where
@@ -30,8 +32,9 @@ unfoldable pub countField : Init → List ℕ → List ℕ
 countField init1 ciphers = length ciphers ∷ []
 countField init2 ciphers = []
 
+-- Init1 lists 1 to 255 ciphers (change request (viii): at least one)
 abbrev pub CountFits : Init → ℕ → Type 0
-CountFits init1 n = n ≤ 255
+CountFits init1 n = (1 ≤ n) × (n ≤ 255)
 CountFits init2 n = n ≡ 1
 
 -- 2-byte ciphers
@@ -42,6 +45,10 @@ cipherBytes (c ∷ l) = bigEndian 2 c ++ cipherBytes l
 abbrev pub Ciphers : List ℕ → Type 0
 Ciphers [] = Unit {0}
 Ciphers (c ∷ l) = (c < 65536) × Ciphers l
+
+-- some cipher of a list is 0000, which names none (change request (viii))
+unfoldable pub isVoid : List ℕ → Bool
+isVoid ciphers = isListed 0x0000 ciphers
 
 -- what stands after the magic and the length
 unfoldable pub fieldsOf : Init → Message → List ℕ
@@ -70,6 +77,7 @@ mostLength = 4096
 pub record Fits (i : Init) (keys : ℕ) (m : Message) : Type 0 where
   pub count : CountFits i (length (m .ciphers))
   pub each : Ciphers (m .ciphers)
+  pub named : isVoid (m .ciphers) ≡ false
   pub nonce : length (m .nonce) ≡ 32
   pub key : length (m .key) ≡ keys
   pub short : lengthOf i m ≤ mostLength

@@ -7,6 +7,8 @@ pub mod LayoutLaws
 pub mod WritingLaws
 pub mod StandingLaws
 pub mod FieldLaws
+pub mod VoidLaws
+pub mod StandingOfLaws
 pub mod ReadableLaws
 pub mod ContinuingLaws
 pub mod Numbered

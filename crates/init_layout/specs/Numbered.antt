@@ -10,7 +10,7 @@ use Rattle.wire.specs.Bytes.{Bytes}
 use Rattle.eno.specs.Tep.{isKnown, keyLength}
 use Rattle.eno.specs.Option.{Writing, wrote}
 use Rattle.eno.specs.Option as o
-use Rattle.init_layout.specs.Layout.{Init, init1, init2, init1Bytes, init2Bytes, Readable, Continues}
+use Rattle.init_layout.specs.Layout.{Init, init1, init2, isVoid, init1Bytes, init2Bytes, Readable, Continues}
 use Rattle.init_layout.specs.Reading.{firstThat, isEnabled, inInit1, Says, took, refusedWith, readInit1, readInit2}
 use Rattle.init_layout.specs.Writing.{writeInit1, writeInit2}
 use Rattle.init_layout.specs.declared.Enabled.{Enabled}
@@ -53,10 +53,10 @@ badTep t = not (isKnown t) || eqb t 0x21 || eqb t 0x22
 unfoldable pub badParts : ℕ → List ℕ → List ℕ → Bool
 badParts t nonce key = badTep t || not (eqb (length nonce) 32) || not (eqb (length key) (keyLength t))
 
--- 3: TEP unknown; Init for 21 or 22; key or Init nonce of another length; over 255 ciphers
+-- 3: TEP unknown; Init for 21 or 22; key or Init nonce of another length; over 255 ciphers; to be written, an empty list or a cipher 0000 (change request (viii))
 unfoldable pub number3 : Call → Bool
-number3 (write1 t ciphers nonce key s) = badParts t nonce key || ltb 255 (length ciphers)
-number3 (write2 t cipher nonce key s) = badParts t nonce key
+number3 (write1 t ciphers nonce key s) = badParts t nonce key || ltb 255 (length ciphers) || eqb (length ciphers) 0 || isVoid ciphers
+number3 (write2 t cipher nonce key s) = badParts t nonce key || eqb cipher 0x0000
 number3 (read1 t enabled p) = badTep t
 number3 (read2 t own p) = badTep t || ltb 255 (length own)
 

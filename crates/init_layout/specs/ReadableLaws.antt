@@ -1,19 +1,20 @@
 -- Readable bytes are read as the layout says, whatever follows; and bytes that are read whole are readable. Assumes nothing.
-use Prim.Native.Nat.{ℕ, _+_, _*_, _-_, _≤_, _<_, _^_}
+use Prim.Native.Nat.{ℕ, zero, suc, _+_, _*_, _-_, _≤_, _<_, _^_}
 use mathlib.Core.Path.{_≡_, refl, sym, _∙_, ap, ap₂, subst}
-use mathlib.Core.List.{List, _∷_, _++_, append-assoc}
-use mathlib.Core.Bool.{Bool, true}
+use mathlib.Core.List.{List, [], _∷_, _++_, append-assoc}
+use mathlib.Core.Bool.{Bool, true, false}
 use native.Mathlib.Omega.{arith}
-use lib.ListN.{length, take, drop, length-append}
+use lib.ListN.{length, getD, take, drop, length-append}
 use lib.Seq.{take-all, take-at, getD-at, drop-cons}
 use Rattle.wire.specs.Bytes.{Bytes, bytesFrom, part, sameBytes}
-use Rattle.wire.specs.ByteLaws.{bytes-each, same-yes, same-eq, bytes-from-part, length-bytes-from, length-part}
+use Rattle.wire.specs.ByteLaws.{same-yes, same-eq, bytes-from-part, length-bytes-from, length-part}
 use Rattle.wire.specs.Number.{bigEndian, numberAt}
 use Rattle.wire.specs.NumberLaws.{length-big}
-use Rattle.init_layout.specs.Layout.{Init, init1, init2, magicOf, Message, messageWith, countField, CountFits, cipherBytes, fieldsOf, lengthOf, encoded, mostLength, Fits, Readable}
+use Rattle.init_layout.specs.Layout.{Init, init1, init2, magicOf, Message, messageWith, countField, CountFits, cipherBytes, isVoid, fieldsOf, lengthOf, encoded, mostLength, Fits, Readable}
 use Rattle.init_layout.specs.LayoutLaws.{length-magic, length-ciphers, length-count, length-encoded, length-of}
-use Rattle.init_layout.specs.Reading.{agrees, lengthAt, countAt, ciphersFrom, nonceFrom, fieldsEnd, standingOf, ciphersAt, firstThat, withCipher, answerTo, takenFrom, readAs, reading}
-use Rattle.init_layout.specs.StandingLaws.{Whole, whole-stands}
+use Rattle.init_layout.specs.Reading.{agrees, lengthAt, countAt, ciphersFrom, nonceFrom, fieldsEnd, voidAt, ciphersAt, firstThat, withCipher, answerTo, takenFrom, readAs, reading}
+use Rattle.init_layout.specs.VoidLaws.{void-whole, clear-some, clear-from, clear-of}
+use Rattle.init_layout.specs.StandingOfLaws.{WholeFor, whole-of}
 use Rattle.init_layout.specs.FieldLaws.{field-at, number-field, number-bytes, cut, ciphers-back, ciphers-bytes, length-ciphers-at, ciphers-small}
 
 -- the fields in a row, seen from each
@@ -36,12 +37,16 @@ module _ (m b c d n k g r : List ℕ) where
 -- the count of ciphers
 count-there : (i : Init) (l a r : List ℕ) → CountFits i (length l) → length a ≡ 8 → countAt i (a ++ (countField i l ++ r)) ≡ length l
 unfolding countAt countField
-count-there init1 l a r f e = getD-at a (length l) r 0 8 e
+count-there init1 l a r f e = getD-at a (length l) r 1 8 e
 count-there init2 l a r f e = sym f
+
+some-cipher : (i : Init) (n : ℕ) → CountFits i n → 1 ≤ n
+some-cipher init1 n f = f .0
+some-cipher init2 n f = omega arith
 
 -- the values of a readable message stand where the reader looks
 pub record Found (i : Init) (keys : ℕ) (m : Message) (p : List ℕ) : Type 0 where
-  pub is-whole : Whole (magicOf i) (fieldsEnd i keys (countAt i p)) p
+  pub is-whole : WholeFor i keys p
   pub is-length : lengthAt p ≡ lengthOf i m
   pub is-count : countAt i p ≡ length (m .ciphers)
   pub is-ciphers : ciphersAt (countAt i p) p (ciphersFrom i) ≡ m .ciphers
@@ -134,14 +139,25 @@ module _ (i : Init) (keys : ℕ) (m : Message) (rest : List ℕ) (fits : Fits i 
   fields-in : fieldsEnd i keys (countAt i p) ≤ lengthAt p
   fields-in = omega (arith, ap (fieldsEnd i keys) found-count, found-length, length-of i m keys (fits .nonce) (fits .key))
 
+  found-clear : voidAt i p ≡ false
+  unfolding fieldsEnd
+  found-clear =
+      clear-of i p (λ e. omega (arith, found-count, some-cipher i (length (m .ciphers)) (fits .count)))
+      (void-whole i p (omega (arith, fields-in, found-length, length-p))
+      ∙ (ap isVoid (ap (λ k. ciphersAt k p (ciphersFrom i)) found-count ∙ found-ciphers) ∙ fits .named))
+
   pub readable-found : Found i keys m p
   readable-found =
       record {
         is-whole =
             record {
-              hopeful = record { magic = found-magic; most = omega (arith, found-length, fits .short); enough = λ _. fields-in };
-              head = omega (arith, length-p, eight);
-              all = omega (arith, length-p, found-length);
+              fields =
+                  record {
+                    hopeful = record { magic = found-magic; most = omega (arith, found-length, fits .short); enough = λ _. fields-in };
+                    head = omega (arith, length-p, eight);
+                    all = omega (arith, length-p, found-length);
+                  };
+              clear = found-clear;
             };
         is-length = found-length;
         is-count = found-count;
@@ -152,9 +168,9 @@ module _ (i : Init) (keys : ℕ) (m : Message) (rest : List ℕ) (fits : Fits i 
 
 -- what is read is the answer to the message, whatever the rest
 pub found-reading : (i : Init) (keys : ℕ) (test : ℕ → Bool) (m : Message) (p : List ℕ) → Found i keys m p → reading i keys test p ≡ answerTo i test m
-unfolding reading standingOf readAs takenFrom answerTo
+unfolding reading readAs takenFrom answerTo
 found-reading i keys test m p f =
-    ap (readAs i keys test p) (whole-stands (magicOf i) (fieldsEnd i keys (countAt i p)) p (f .is-whole))
+    ap (readAs i keys test p) (whole-of i keys p (f .is-whole))
     ∙ (ap (λ l. withCipher (firstThat test l) (countAt i p) (lengthAt p) (bytesFrom 32 p (nonceFrom i (countAt i p))) (bytesFrom keys p (nonceFrom i (countAt i p) + 32))) (f .is-ciphers)
     ∙ (ap (λ c. withCipher (firstThat test (m .ciphers)) c (lengthAt p) (bytesFrom 32 p (nonceFrom i (countAt i p))) (bytesFrom keys p (nonceFrom i (countAt i p) + 32))) (f .is-count)
     ∙ (ap (λ n. withCipher (firstThat test (m .ciphers)) (length (m .ciphers)) n (bytesFrom 32 p (nonceFrom i (countAt i p))) (bytesFrom keys p (nonceFrom i (countAt i p) + 32))) (f .is-length)
@@ -163,19 +179,24 @@ found-reading i keys test m p f =
 pub readable-reading : (i : Init) (keys : ℕ) (test : ℕ → Bool) (m : Message) (rest : List ℕ) → Fits i keys m → reading i keys test (encoded i m ++ rest) ≡ answerTo i test m
 readable-reading i keys test m rest fits = found-reading i keys test m (encoded i m ++ rest) (readable-found i keys m rest fits)
 
-count-fits : (i : Init) (p : List ℕ) → Bytes p → CountFits i (countAt i p)
+byte-or-1 : (p : List ℕ) → Bytes p → (j : ℕ) → getD p j 1 < 256
+byte-or-1 [] b j = omega arith
+byte-or-1 (x ∷ p) b zero = b .0
+byte-or-1 (x ∷ p) b (suc j) = byte-or-1 p (b .1) j
+
+count-fits : (i : Init) (p : List ℕ) → Bytes p → (countAt i p ≡ 0 → ⊥) → CountFits i (countAt i p)
 unfolding countAt
-count-fits init1 p b = omega (arith, bytes-each p b 8)
-count-fits init2 p b = refl
+count-fits init1 p b h = (omega arith, omega (arith, byte-or-1 p b 8))
+count-fits init2 p b h = refl
 
 -- the count at its place
 count-cut : (i : Init) (keys : ℕ) (l p : List ℕ) → length l ≡ countAt i p → fieldsEnd i keys (countAt i p) ≤ length p → countField i l ++ drop (ciphersFrom i) p ≡ drop 8 p
 unfolding countField ciphersFrom countAt fieldsEnd nonceFrom
-count-cut init1 keys l p e h = ap (λ x. x ∷ drop 9 p) e ∙ sym (drop-cons p 8 0 (omega arith))
+count-cut init1 keys l p e h = ap (λ x. x ∷ drop 9 p) e ∙ sym (drop-cons p 8 1 (omega arith))
 count-cut init2 keys l p e h = refl
 
 -- a message that is whole at hand, by its parts
-module _ (i : Init) (keys : ℕ) (p : List ℕ) (bytes : Bytes p) (w : Whole (magicOf i) (fieldsEnd i keys (countAt i p)) p) where
+module _ (i : Init) (keys : ℕ) (p : List ℕ) (bytes : Bytes p) (w : WholeFor i keys p) where
   abbrev count : ℕ
   count = countAt i p
 
@@ -186,26 +207,26 @@ module _ (i : Init) (keys : ℕ) (p : List ℕ) (bytes : Bytes p) (w : Whole (ma
   at-hand = messageWith (ciphersAt count p (ciphersFrom i)) (bytesFrom 32 p (nonceFrom i count)) (bytesFrom keys p (nonceFrom i count + 32)) (part end (lengthAt p - end) p)
 
   enough : end ≤ lengthAt p
-  enough = w .hopeful .enough (w .head)
+  enough = w .fields .hopeful .enough (w .fields .head)
 
   hand-length : lengthOf i at-hand ≡ lengthAt p
   hand-length =
       let r = length-of i at-hand keys (length-bytes-from 32 p (nonceFrom i count)) (length-bytes-from keys p (nonceFrom i count + 32)) in
       let c = ap (fieldsEnd i keys) (length-ciphers-at count p (ciphersFrom i)) in
-      omega (arith, enough, w .all, length-part end (lengthAt p - end) p (omega (arith, enough, w .all)))
+      omega (arith, enough, w .fields .all, length-part end (lengthAt p - end) p (omega (arith, enough, w .fields .all)))
 
   hand-magic : magicOf i ≡ part 0 4 p
   unfolding part agrees
   hand-magic =
-      let short : length (magicOf i) ≤ length p = omega (arith, length-magic i, w .head) in
-      sym (take-all (length p) (magicOf i) short) ∙ (sym (same-eq (take (length (magicOf i)) p) (take (length p) (magicOf i)) (w .hopeful .magic)) ∙ ap (λ k. take k p) (length-magic i))
+      let short : length (magicOf i) ≤ length p = omega (arith, length-magic i, w .fields .head) in
+      sym (take-all (length p) (magicOf i) short) ∙ (sym (same-eq (take (length (magicOf i)) p) (take (length p) (magicOf i)) (w .fields .hopeful .magic)) ∙ ap (λ k. take k p) (length-magic i))
 
   hand-number : bigEndian 4 (lengthOf i at-hand) ≡ part 4 4 p
   unfolding lengthAt
-  hand-number = ap (bigEndian 4) hand-length ∙ (number-bytes 4 4 p bytes ∙ bytes-from-part 4 p 4 (w .head))
+  hand-number = ap (bigEndian 4) hand-length ∙ (number-bytes 4 4 p bytes ∙ bytes-from-part 4 p 4 (w .fields .head))
 
   room : end ≤ length p
-  room = omega (arith, enough, w .all)
+  room = omega (arith, enough, w .fields .all)
 
   abbrev rest-of : List ℕ
   rest-of = drop (lengthAt p) p
@@ -239,7 +260,11 @@ module _ (i : Init) (keys : ℕ) (p : List ℕ) (bytes : Bytes p) (w : Whole (ma
       ∙ (ap₂ (λ a b. a ++ b) hand-magic (ap₂ (λ a b. a ++ b) hand-number from-count ∙ sym (cut 4 4 p)) ∙ sym (cut 0 4 p))
 
   hand-count : CountFits i (length (at-hand .ciphers))
-  hand-count = subst (CountFits i) (sym (length-ciphers-at count p (ciphersFrom i))) (count-fits i p bytes)
+  hand-count = subst (CountFits i) (sym (length-ciphers-at count p (ciphersFrom i))) (count-fits i p bytes (clear-some i p (w .clear)))
+
+  hand-named : isVoid (at-hand .ciphers) ≡ false
+  unfolding fieldsEnd
+  hand-named = sym (void-whole i p (omega (arith, room))) ∙ clear-from i p (w .clear)
 
   pub whole-readable : Readable i keys p
   whole-readable =
@@ -250,9 +275,10 @@ module _ (i : Init) (keys : ℕ) (p : List ℕ) (bytes : Bytes p) (w : Whole (ma
             record {
               count = hand-count;
               each = ciphers-small count p (ciphersFrom i) bytes;
+              named = hand-named;
               nonce = length-bytes-from 32 p (nonceFrom i count);
               key = length-bytes-from keys p (nonceFrom i count + 32);
-              short = omega (arith, hand-length, w .hopeful .most);
+              short = omega (arith, hand-length, w .fields .hopeful .most);
             };
         layout = hand-layout;
       }

@@ -1,7 +1,7 @@
 -- What a reader decides from the bytes at hand, by fields as they come, and what it says.
 use Prim.Native.Nat.{ℕ, zero, suc, _+_, _*_, _-_}
 use mathlib.Core.List.{List, [], _∷_, _++_}
-use mathlib.Core.Bool.{Bool, cond, not, _&&_, _||_}
+use mathlib.Core.Bool.{Bool, false, cond, not, _&&_, _||_}
 use mathlib.Core.Option.{Option, none, some}
 use lib.Dec.{ltb, eqb}
 use lib.ListN.{length, getD, take, replicate}
@@ -20,8 +20,9 @@ agrees magic p = sameBytes (take (length magic) p) (take (length p) magic)
 unfoldable pub lengthAt : List ℕ → ℕ
 lengthAt p = numberAt 4 p 4
 
+-- how many ciphers the message lists; a count that is not at hand reads as 1, the least that may follow
 unfoldable pub countAt : Init → List ℕ → ℕ
-countAt init1 p = getD p 8 0
+countAt init1 p = getD p 8 1
 countAt init2 p = 1
 
 -- where the ciphers begin, then nonce and key, and where the fields end
@@ -51,8 +52,18 @@ standing magic fields p =
     (cond (ltb (length p) (lengthAt p)) incomplete
     (whole (lengthAt p))))))
 
+-- one of n ciphers from place i on is 0000, as far as both its bytes are at hand
+unfoldable pub voidFrom : ℕ → List ℕ → ℕ → Bool
+voidFrom zero p i = false
+voidFrom (suc n) p i = ltb (i + 1) (length p) && (eqb (numberAt 2 p i) 0x0000 || voidFrom n p (i + 2))
+
+-- no cipher is listed, or one that is 0000
+unfoldable pub voidAt : Init → List ℕ → Bool
+voidAt i p = eqb (countAt i p) 0 || voidFrom (countAt i p) p (ciphersFrom i)
+
+-- nor is a continuation readable where the list is empty or void
 unfoldable pub standingOf : Init → ℕ → List ℕ → Standing
-standingOf i keys p = standing (magicOf i) (fieldsEnd i keys (countAt i p)) p
+standingOf i keys p = cond (voidAt i p) unreadable (standing (magicOf i) (fieldsEnd i keys (countAt i p)) p)
 
 -- n ciphers from place i on
 unfoldable pub ciphersAt : ℕ → List ℕ → ℕ → List ℕ

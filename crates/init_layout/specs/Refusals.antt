@@ -14,11 +14,11 @@ use Rattle.wire.specs.Bytes.{Bytes, pasted}
 use Rattle.eno.specs.Tep.{isKnown, keyLength}
 use Rattle.eno.specs.Option.{writtenAs, wrote}
 use Rattle.eno.specs.Option as option
-use Rattle.init_layout.specs.Layout.{Init, init1, init2, magicOf, lengthOf, init1Bytes, init2Bytes, Readable, Continues}
-use Rattle.init_layout.specs.Reading.{countAt, fieldsEnd, Standing, unreadable, incomplete, whole, standingOf, firstThat, isEnabled, inInit1, refusedWith, refusedReading, withCipher, answerTo, readAs, reading, readFor, readInit1, readInit2}
-use Rattle.init_layout.specs.Writing.{partsFit, writeMessage, writeInit1, writeInit2}
+use Rattle.init_layout.specs.Layout.{Init, init1, init2, isVoid, lengthOf, init1Bytes, init2Bytes, Readable, Continues}
+use Rattle.init_layout.specs.Reading.{Standing, unreadable, incomplete, whole, standingOf, firstThat, isEnabled, inInit1, refusedWith, refusedReading, withCipher, answerTo, readAs, reading, readFor, readInit1, readInit2}
+use Rattle.init_layout.specs.Writing.{partsFit, ciphersFit, writeMessage, writeInit1, writeInit2}
 use Rattle.init_layout.specs.declared.Enabled.{Enabled}
-use Rattle.init_layout.specs.StandingLaws.{stands-unreadable, stands-incomplete, stands-whole}
+use Rattle.init_layout.specs.StandingOfLaws.{of-unreadable, of-incomplete, of-whole}
 use Rattle.init_layout.specs.ReadableLaws.{readable-reading, whole-readable}
 use Rattle.init_layout.specs.ContinuingLaws.{hopeful-continues, continues-hopeful, readable-whole}
 use Rattle.init_layout.specs.Numbered.{Call, write1, write2, read1, read2, OfBytes, writingNumber, saysNumber, refusedBy, badTep, badParts, number3, number5, NoCommon, Number8, Number9, Number10, Applies, row3, row5, row8, row9, row10, Least}
@@ -108,11 +108,11 @@ module _ (i : Init) (keys : ℕ) (few : keys ≤ 56) (test : ℕ → Bool) (p : 
       says-as v q = e ∙ ap (λ x. saysNumber (readAs i keys test p x .says)) q
 
       ends-unreadable : standingOf i keys p ≡ unreadable → Ends c
-      unfolding standingOf readAs refusedReading
+      unfolding readAs refusedReading
       ends-unreadable q = refuses 8 (says-as unreadable q) (record { this = row8 refl (to8 never); none-below = below })
         where
           never : Continues i keys p → ⊥
-          never k = stands-unreadable (magicOf i) (fieldsEnd i keys (countAt i p)) p q (continues-hopeful i keys p k)
+          never k = of-unreadable i keys p q (continues-hopeful i keys p k)
 
           below : (m : ℕ) → m < 8 → Applies c m → ⊥
           below m h (row3 k x) = differ (sym e3 ∙ x)
@@ -122,14 +122,14 @@ module _ (i : Init) (keys : ℕ) (few : keys ≤ 56) (test : ℕ → Bool) (p : 
           below m h (row10 k x) = omega arith
 
       ends-incomplete : standingOf i keys p ≡ incomplete → Ends c
-      unfolding standingOf readAs refusedReading
+      unfolding readAs refusedReading
       ends-incomplete q = refuses 9 (says-as incomplete q) (record { this = row9 refl (to9 (not-yet, later)); none-below = below })
         where
           not-yet : Readable i keys p → ⊥
-          not-yet r = stands-incomplete (magicOf i) (fieldsEnd i keys (countAt i p)) p q .1 (readable-whole i keys p r)
+          not-yet r = of-incomplete i keys p q .1 (readable-whole i keys p r)
 
           later : Continues i keys p
-          later = hopeful-continues i keys few p bytes (stands-incomplete (magicOf i) (fieldsEnd i keys (countAt i p)) p q .0)
+          later = hopeful-continues i keys few p bytes (of-incomplete i keys p q .0)
 
           below : (m : ℕ) → m < 9 → Applies c m → ⊥
           below m h (row3 k x) = differ (sym e3 ∙ x)
@@ -171,9 +171,8 @@ module _ (i : Init) (keys : ℕ) (few : keys ≤ 56) (test : ℕ → Bool) (p : 
               omega arith
 
       ends-whole : (n : ℕ) → standingOf i keys p ≡ whole n → Ends c
-      unfolding standingOf
       ends-whole n q =
-          let r = whole-readable i keys p bytes (stands-whole (magicOf i) (fieldsEnd i keys (countAt i p)) p n q .0) in
+          let r = whole-readable i keys p bytes (of-whole i keys p n q .0) in
           ends-readable r (firstThat test (r .message .ciphers)) refl
 
       ends-read : Ends c
@@ -201,15 +200,28 @@ unfit-rows false false c d = refl
 unfit-rows false true false d = refl
 unfit-rows false true true d = refl
 
-unfit-parts : (a b c : Bool) → not (not a && b && c) ≡ a || not b || not c
-unfit-parts true b c = refl
-unfit-parts false false c = refl
-unfit-parts false true c = refl
+unfit-list : (x p q v : Bool) → x || not (p && q && not v) ≡ x || not q || not p || v
+unfit-list true p q v = refl
+unfit-list false false false v = refl
+unfit-list false false true v = refl
+unfit-list false true false v = refl
+unfit-list false true true false = refl
+unfit-list false true true true = refl
+
+twice-not : (b : Bool) → not (not b) ≡ b
+twice-not true = refl
+twice-not false = refl
 
 over : (n : ℕ) → ltb 255 n ≡ not (leb n 255)
 over n = elim (decLt 255 n) [
   | yes h ↦ simp (lt-ltb 255 n h, lt-leb n 255 h)
   | no h ↦ let k : n ≤ 255 = omega arith in simp (le-ltb 255 n k, le-leb n 255 k)
+]
+
+empty : (n : ℕ) → eqb n 0 ≡ not (leb 1 n)
+empty n = elim (decLt 0 n) [
+  | yes h ↦ let z : n ≡ 0 → ⊥ = λ e. omega arith in simp (ne-eqb n 0 z, le-leb 1 n h)
+  | no h ↦ let z : n ≡ 0 = omega arith in simp (z)
 ]
 
 write-number : (fit : Bool) (o s : List ℕ) → writingNumber (writeMessage fit o s .says) ≡ cond (not fit) (some 3) (cond (ltb (length s) (length o)) (some 5) none)
@@ -223,16 +235,21 @@ write-number true o s = go (ltb (length s) (length o))
 
 module _ (t : ℕ) (nonce key s : List ℕ) where
   number-1 : (ciphers : List ℕ) → let c = write1 t ciphers nonce key s in refusedBy c ≡ cond (number3 c) (some 3) (cond (number5 c) (some 5) none)
-  unfolding refusedBy number3 number5 writeInit1 partsFit badParts
+  unfolding refusedBy number3 number5 writeInit1 partsFit ciphersFit badParts
   number-1 ciphers =
       let o = init1Bytes ciphers nonce key in
       let A = eqb (keyLength t) 0 in
       let B = eqb (length nonce) 32 in
       let C = eqb (length key) (keyLength t) in
-      write-number (not A && B && C && leb (length ciphers) 255) o s
+      let n = length ciphers in
+      let v = isVoid ciphers in
+      write-number (not A && B && C && (leb 1 n && leb n 255 && not v)) o s
       ∙ ap (λ b. cond b (some 3) (cond (ltb (length s) (length o)) (some 5) none))
-      (unfit-rows A B C (leb (length ciphers) 255)
-      ∙ (ap (λ b. A || not B || not C || b) (sym (over (length ciphers))) ∙ ap (λ b. b || not B || not C || ltb 255 (length ciphers)) (bad-tep t)))
+      (unfit-rows A B C (leb 1 n && leb n 255 && not v)
+      ∙ (unfit-list (A || not B || not C) (leb 1 n) (leb n 255) v
+      ∙ (ap (λ b. A || not B || not C || b || not (leb 1 n) || v) (sym (over n))
+      ∙ (ap (λ b. A || not B || not C || ltb 255 n || b || v) (sym (empty n))
+      ∙ ap (λ b. b || not B || not C || ltb 255 n || eqb n 0 || v) (bad-tep t)))))
 
   number-2 : (cipher : ℕ) → let c = write2 t cipher nonce key s in refusedBy c ≡ cond (number3 c) (some 3) (cond (number5 c) (some 5) none)
   unfolding refusedBy number3 number5 writeInit2 partsFit badParts
@@ -241,8 +258,10 @@ module _ (t : ℕ) (nonce key s : List ℕ) where
       let A = eqb (keyLength t) 0 in
       let B = eqb (length nonce) 32 in
       let C = eqb (length key) (keyLength t) in
-      write-number (not A && B && C) o s
-      ∙ ap (λ b. cond b (some 3) (cond (ltb (length s) (length o)) (some 5) none)) (unfit-parts A B C ∙ ap (λ b. b || not B || not C) (bad-tep t))
+      let v = eqb cipher 0 in
+      write-number (not A && B && C && not v) o s
+      ∙ ap (λ b. cond b (some 3) (cond (ltb (length s) (length o)) (some 5) none))
+      (unfit-rows A B C (not v) ∙ (ap (λ b. A || not B || not C || b) (twice-not v) ∙ ap (λ b. b || not B || not C || v) (bad-tep t)))
 
 -- the readers' tests
 module _ (t : ℕ) (p : List ℕ) (bytes : Bytes p) where
@@ -313,8 +332,8 @@ kept true o s n e = go (ltb (length s) (length o)) e
 
 pub init1-kept : (t : ℕ) (ciphers nonce key s : List ℕ) (n : ℕ) → writeInit1 t ciphers nonce key s .says ≡ option.refusedWith n → writeInit1 t ciphers nonce key s .buffer ≡ s
 unfolding writeInit1
-init1-kept t ciphers nonce key s n e = kept (partsFit t nonce key && leb (length ciphers) 255) (init1Bytes ciphers nonce key) s n e
+init1-kept t ciphers nonce key s n e = kept (partsFit t nonce key && ciphersFit ciphers) (init1Bytes ciphers nonce key) s n e
 
 pub init2-kept : (t cipher : ℕ) (nonce key s : List ℕ) (n : ℕ) → writeInit2 t cipher nonce key s .says ≡ option.refusedWith n → writeInit2 t cipher nonce key s .buffer ≡ s
 unfolding writeInit2
-init2-kept t cipher nonce key s n e = kept (partsFit t nonce key) (init2Bytes cipher nonce key) s n e
+init2-kept t cipher nonce key s n e = kept (partsFit t nonce key && not (eqb cipher 0)) (init2Bytes cipher nonce key) s n e

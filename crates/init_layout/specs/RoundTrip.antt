@@ -2,23 +2,23 @@
 use Prim.Native.Nat.{ℕ, _+_, _≤_, _<_}
 use mathlib.Core.Path.{_≡_, refl, sym, _∙_, ap}
 use mathlib.Core.List.{List, [], _∷_, _++_}
-use mathlib.Core.Bool.{Bool, true, false, cond, _&&_, false≢true}
+use mathlib.Core.Bool.{Bool, true, false, cond, not, _&&_, _||_, false≢true}
 use mathlib.Core.Option.{none, some}
 use native.Mathlib.Omega.{arith}
-use borrow.Author.Tests.{le-ltb, ltb-false, leb-true, ne-eqb}
-use lib.Dec.{ltb, leb}
+use borrow.Author.Tests.{le-ltb, ltb-false, ne-eqb, not-true}
+use lib.Dec.{ltb, eqb}
 use lib.ListN.{length, take}
 use lib.Seq.{take-at}
 use Rattle.wire.specs.Bytes.{pasted}
 use Rattle.wire.specs.ByteLaws.{pasted-fits}
 use Rattle.eno.specs.Tep.{keyLength}
-use Rattle.eno.specs.Option.{writtenAs, wrote}
+use Rattle.eno.specs.Option.{writtenAs, wrote, isListed}
 use Rattle.eno.specs.Option as option
-use Rattle.init_layout.specs.Layout.{Init, init1, init2, Message, messageWith, Ciphers, lengthOf, encoded, init1Bytes, init2Bytes, mostLength, Fits}
+use Rattle.init_layout.specs.Layout.{Init, init1, init2, Message, messageWith, Ciphers, isVoid, lengthOf, encoded, init1Bytes, init2Bytes, mostLength, Fits}
 use Rattle.init_layout.specs.LayoutLaws.{length-encoded, length-of}
 use Rattle.init_layout.specs.Reading.{ciphersFrom, nonceFrom, fieldsEnd, firstThat, isEnabled, inInit1, took, readingAs, refusedReading, padded, withCipher, answerTo, reading, readFor, readInit1, readInit2}
-use Rattle.init_layout.specs.Writing.{partsFit, writeMessage, writeInit1, writeInit2}
-use Rattle.init_layout.specs.WritingLaws.{Parts, parts}
+use Rattle.init_layout.specs.Writing.{partsFit, ciphersFit, writeMessage, writeInit1, writeInit2}
+use Rattle.init_layout.specs.WritingLaws.{Parts, parts, Listed, ciphers-listed}
 use Rattle.init_layout.specs.ReadableLaws.{readable-reading}
 use Rattle.init_layout.specs.Refusals.{keys-few}
 use Rattle.init_layout.specs.declared.Enabled.{Enabled}
@@ -66,29 +66,33 @@ init1-read-back t enabled ciphers nonce key s more n c each e first =
     m : Message
     m = messageWith ciphers nonce key []
 
-    w : Sent (partsFit t nonce key && leb (length ciphers) 255) (init1Bytes ciphers nonce key) n (writeInit1 t ciphers nonce key s .buffer)
-    w = sent (partsFit t nonce key && leb (length ciphers) 255) (init1Bytes ciphers nonce key) s n e
+    w : Sent (partsFit t nonce key && ciphersFit ciphers) (init1Bytes ciphers nonce key) n (writeInit1 t ciphers nonce key s .buffer)
+    w = sent (partsFit t nonce key && ciphersFit ciphers) (init1Bytes ciphers nonce key) s n e
 
-    fit : (partsFit t nonce key ≡ true) × (leb (length ciphers) 255 ≡ true)
-    fit = both (partsFit t nonce key) (leb (length ciphers) 255) (w .fitting)
+    fit : (partsFit t nonce key ≡ true) × (ciphersFit ciphers ≡ true)
+    fit = both (partsFit t nonce key) (ciphersFit ciphers) (w .fitting)
 
     f : Parts t nonce key
     f = parts t nonce key (fit .0)
 
+    l : Listed ciphers
+    l = ciphers-listed ciphers (fit .1)
+
     fits : Fits init1 (keyLength t) m
     fits =
         record {
-          count = leb-true (length ciphers) 255 (fit .1);
+          count = (l .some, l .few);
           each = each;
+          named = l .named;
           nonce = f .nonce-long;
           key = f .key-long;
-          short = omega (arith, leb-true (length ciphers) 255 (fit .1), length-of init1 m (keyLength t) (f .nonce-long) (f .key-long), keys-few t);
+          short = omega (arith, l .few, length-of init1 m (keyLength t) (f .nonce-long) (f .key-long), keys-few t);
         }
 
 pub init2-read-back : (t cipher : ℕ) (own nonce key s more : List ℕ) (n : ℕ) → cipher < 65536
     → writeInit2 t cipher nonce key s .says ≡ wrote n → length own ≤ 255 → inInit1 own cipher ≡ true
     → readInit2 t own (take n (writeInit2 t cipher nonce key s .buffer) ++ more) ≡ readingAs (took cipher 1 n) nonce (padded key)
-unfolding writeInit2 readInit2 init2Bytes answerTo withCipher firstThat mostLength fieldsEnd nonceFrom ciphersFrom
+unfolding writeInit2 readInit2 init2Bytes answerTo withCipher firstThat mostLength fieldsEnd nonceFrom ciphersFrom isVoid isListed
 init2-read-back t cipher own nonce key s more n small e few listed =
     ap (λ l. cond (ltb 255 (length own)) (refusedReading 3) (readFor init2 (keyLength t) (inInit1 own) (l ++ more))) (w .there)
     ∙ (ap (λ b. cond b (refusedReading 3) (readFor init2 (keyLength t) (inInit1 own) (encoded init2 m ++ more))) (le-ltb 255 (length own) few)
@@ -100,17 +104,24 @@ init2-read-back t cipher own nonce key s more n small e few listed =
     m : Message
     m = messageWith (cipher ∷ []) nonce key []
 
-    w : Sent (partsFit t nonce key) (init2Bytes cipher nonce key) n (writeInit2 t cipher nonce key s .buffer)
-    w = sent (partsFit t nonce key) (init2Bytes cipher nonce key) s n e
+    w : Sent (partsFit t nonce key && not (eqb cipher 0)) (init2Bytes cipher nonce key) n (writeInit2 t cipher nonce key s .buffer)
+    w = sent (partsFit t nonce key && not (eqb cipher 0)) (init2Bytes cipher nonce key) s n e
+
+    fit : (partsFit t nonce key ≡ true) × (not (eqb cipher 0) ≡ true)
+    fit = both (partsFit t nonce key) (not (eqb cipher 0)) (w .fitting)
 
     f : Parts t nonce key
-    f = parts t nonce key (w .fitting)
+    f = parts t nonce key (fit .0)
+
+    named : isVoid (cipher ∷ []) ≡ false
+    named = ap (λ b. b || false) (not-true (eqb cipher 0) (fit .1))
 
     fits : Fits init2 (keyLength t) m
     fits =
         record {
           count = refl;
           each = (small, tt);
+          named = named;
           nonce = f .nonce-long;
           key = f .key-long;
           short = omega (arith, length-of init2 m (keyLength t) (f .nonce-long) (f .key-long), keys-few t);

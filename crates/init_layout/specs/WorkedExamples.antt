@@ -9,7 +9,7 @@ use Rattle.wire.specs.Bytes.{bytesFrom, sameBytes}
 use Rattle.wire.specs.Number.{number, numberAfter, numberAt}
 use Rattle.eno.specs.Tep.{keyLength}
 use Rattle.init_layout.specs.Layout.{magicOf, mostLength}
-use Rattle.init_layout.specs.Reading.{agrees, lengthAt, countAt, ciphersFrom, nonceFrom, fieldsEnd, standing, standingOf, ciphersAt, firstThat, isEnabled, zeros, refusedReading, withCipher, takenFrom, readAs, reading, readFor, readInit1}
+use Rattle.init_layout.specs.Reading.{agrees, lengthAt, countAt, ciphersFrom, nonceFrom, fieldsEnd, standing, voidFrom, voidAt, standingOf, ciphersAt, firstThat, isEnabled, zeros, refusedReading, withCipher, takenFrom, readAs, reading, readFor, readInit1}
 use Rattle.init_layout.specs.Numbered.{saysNumber}
 use Rattle.init_layout.specs.declared.Enabled.{Enabled}
 
@@ -30,13 +30,18 @@ table =
     ∷ (after (0x00 ∷ 0x00 ∷ 0x10 ∷ []), 9)
     ∷ (after (0x00 ∷ 0x00 ∷ 0x10 ∷ 0x01 ∷ []), 8)
     ∷ (after (0x00 ∷ 0x00 ∷ 0x11 ∷ []), 8)
-    ∷ (after (0x00 ∷ 0x00 ∷ 0x00 ∷ 0x48 ∷ []), 8)
-    ∷ (after (0x00 ∷ 0x00 ∷ 0x00 ∷ 0x49 ∷ []), 9)
+    ∷ (after (0x00 ∷ 0x00 ∷ 0x00 ∷ 0x4a ∷ []), 8)
+    ∷ (after (0x00 ∷ 0x00 ∷ 0x00 ∷ 0x4b ∷ []), 9)
+    ∷ (after (0x00 ∷ 0x00 ∷ 0x00 ∷ 0x4b ∷ 0x00 ∷ []), 8)
+    ∷ (after (0x00 ∷ 0x00 ∷ 0x00 ∷ 0x4b ∷ 0x01 ∷ 0x00 ∷ []), 9)
+    ∷ (after (0x00 ∷ 0x00 ∷ 0x00 ∷ 0x4b ∷ 0x01 ∷ 0x00 ∷ 0x00 ∷ []), 8)
+    ∷ (after (0x00 ∷ 0x00 ∷ 0x00 ∷ 0x4d ∷ 0x02 ∷ 0x00 ∷ 0x01 ∷ 0x00 ∷ []), 9)
+    ∷ (after (0x00 ∷ 0x00 ∷ 0x00 ∷ 0x4d ∷ 0x02 ∷ 0x00 ∷ 0x01 ∷ 0x00 ∷ 0x00 ∷ []), 8)
     ∷ (after (0x00 ∷ 0x00 ∷ 0x00 ∷ 0x4b ∷ 0x02 ∷ []), 8)
     ∷ (after (0x00 ∷ 0x00 ∷ 0x00 ∷ 0x4c ∷ 0x01 ∷ 0x00 ∷ 0x03 ∷ replicate 64 0), 9)
     ∷ (after (0x00 ∷ 0x00 ∷ 0x00 ∷ 0x4b ∷ 0x01 ∷ 0x00 ∷ 0x03 ∷ replicate 64 0), 10)
     ∷ []
 
 pub worked-examples : map (λ r. saysNumber (readInit1 0x23 allEnabled (r .0) .says)) table ≡ map (λ r. some (r .1)) table
-unfolding bytesFrom sameBytes number numberAfter numberAt keyLength magicOf mostLength agrees lengthAt countAt ciphersFrom nonceFrom fieldsEnd standing standingOf ciphersAt firstThat isEnabled zeros refusedReading withCipher takenFrom readAs reading readFor readInit1
+unfolding bytesFrom sameBytes number numberAfter numberAt keyLength magicOf mostLength agrees lengthAt countAt ciphersFrom nonceFrom fieldsEnd standing voidFrom voidAt standingOf ciphersAt firstThat isEnabled zeros refusedReading withCipher takenFrom readAs reading readFor readInit1
 worked-examples = refl

@@ -1,3 +1,3 @@
 -- Laws that the proofs share.
-pub mod Scanning
+pub mod Filling
 pub mod Receiving

@@ -1,49 +1,15 @@
 // Init1 and Init2, read as far as bytes are at hand.
-use eno::Tep;
 use init_layout::Enabled;
 use init_layout::InitAnswer;
 use init_layout::InitRead;
+use init_steps::Choice;
 use init_steps::Progress;
 ghost use mathlib.Core.Path.{_≡_};
-ghost use Prim.Native.Nat.{_+_, _*_, _≤_};
+ghost use Prim.Native.Nat.{_+_, _≤_};
 ghost use lib.ListN.{length};
 ghost use Rattle.wire.specs.Bytes.{bytesFrom};
-ghost use Rattle.eno.specs.Tep.{keyLength};
-ghost use Rattle.init_layout.specs.Reading.{ciphersAt, firstThat, isEnabled, took, readingAs, zeros, padded, readInit1, readInit2};
+ghost use Rattle.init_layout.specs.Reading.{took, readingAs, zeros, padded, readInit1, readInit2};
 ghost use Rattle.init_layout.specs.Answers.{saysOf, readingOf};
-ghost use Rattle.init_reader.specs.Answers.{choiceOf};
-
-// The cipher that is taken, if any.
-enum Choice {
-    Took(u16),
-    Nothing,
-}
-
-// How long the public key of a TEP is; 0 where its Init is not read or written here.
-fn keys_of(tep: u8) -> usize
-    ensures { λ r. ⌜ (r ≡ keyLength tep) × (r ≤ 56) ⌝ }
-{
-    let named = Tep::of(tep);
-    named.key_length
-}
-
-// The first of the ciphers at a place that is enabled.
-fn first_enabled(enabled: Enabled, s: &[u8], at: usize, count: usize) -> Choice
-    requires { ⌜ at + 2 * count ≤ length (now s) ⌝ }
-    ensures { λ r. ⌜ choiceOf r ≡ firstThat (isEnabled enabled) (ciphersAt count (now (s .entry)) at) ⌝ }
-{
-    let mut i = 0;
-    let mut next = at;
-    while i < count {
-        let cipher = wire_numbers::read_u16(s, next);
-        if init_steps::is_enabled(enabled, cipher) {
-            return Choice::Took(cipher);
-        }
-        i += 1;
-        next += 2;
-    }
-    Choice::Nothing
-}
 
 // The nonce at a place.
 fn nonce_at(s: &[u8], at: usize) -> [u8; 32]
@@ -97,18 +63,18 @@ fn taken(cipher: u16, count: usize, whole: usize, s: &[u8], at: usize, keys: usi
 pub fn init1_read(tep: u8, enabled: Enabled, bytes: &[u8]) -> InitRead
     ensures { λ r. ⌜ readingOf r ≡ readInit1 tep enabled (now (bytes .entry)) ⌝ }
 {
-    let keys = keys_of(tep);
+    let keys = init_steps::keys_of(tep);
     if keys == 0 {
         return refused(InitAnswer::Unfit);
     }
-    let count = init_steps::count_of(bytes);
-    let at = 9 + 2 * count;
-    let progress = init_steps::settle(b"\x15\x10\x1a\x0e", at + 32 + keys, bytes);
+    let progress = init_steps::progress1(tep, bytes);
     match progress {
         Progress::Unreadable => refused(InitAnswer::Unreadable),
         Progress::Incomplete => refused(InitAnswer::Incomplete),
         Progress::Whole(n) => {
-            let choice = first_enabled(enabled, bytes, 9, count);
+            let count = init_steps::count_of(bytes);
+            let at = 9 + 2 * count;
+            let choice = init_steps::first_enabled(enabled, bytes);
             match choice {
                 Choice::Nothing => refused(InitAnswer::NoCommonCipher),
                 Choice::Took(cipher) => taken(cipher, count, n, bytes, at, keys),
@@ -124,11 +90,11 @@ pub fn init2_read(tep: u8, own: &[u16], bytes: &[u8]) -> InitRead
     if 255 < own.len() {
         return refused(InitAnswer::Unfit);
     }
-    let size = keys_of(tep);
+    let size = init_steps::keys_of(tep);
     if size == 0 {
         return refused(InitAnswer::Unfit);
     }
-    let progress = init_steps::settle(b"\x09\x71\x05\xe0", 42 + size, bytes);
+    let progress = init_steps::progress2(tep, bytes);
     match progress {
         Progress::Unreadable => refused(InitAnswer::Unreadable),
         Progress::Incomplete => refused(InitAnswer::Incomplete),

@@ -2,10 +2,10 @@
 use Prim.Native.Nat.{ℕ, _+_, _*_, _≤_, _<_}
 use mathlib.Core.Path.{_≡_, refl, sym, _∙_, ap}
 use mathlib.Core.List.{List, [], _∷_, _++_, append-assoc, append-nil}
-use mathlib.Core.Bool.{true, false, _&&_}
+use mathlib.Core.Bool.{true, false, not, _&&_}
 use native.Mathlib.Omega.{arith}
-use borrow.Author.Tests.{le-leb, lt-leb}
-use lib.Dec.{leb}
+use borrow.Author.Tests.{eq-eqb, ne-eqb}
+use lib.Dec.{eqb}
 use lib.ListN.{length, length-append}
 use Rattle.wire.specs.Bytes.{pasted}
 use Rattle.wire.specs.Number.{bigEndian}
@@ -13,9 +13,9 @@ use Rattle.wire.specs.NumberLaws.{length-big}
 use Rattle.eno.specs.Option.{writtenAs, wrote, refusedWith}
 use Rattle.init_layout.specs.Layout.{init1, init2, magicOf, messageWith, countField, cipherBytes, fieldsOf, encoded, init1Bytes, init2Bytes}
 use Rattle.init_layout.specs.LayoutLaws.{length-magic, length-ciphers, length-encoded, length-init1, length-init2}
-use Rattle.init_layout.specs.WritingLaws.{parts}
+use Rattle.init_layout.specs.WritingLaws.{parts, ciphers-listed}
 use Rattle.init_layout.specs.Refusals.{keys-few}
-use Rattle.init_layout.specs.Writing.{partsFit, writeInit1, writeInit2}
+use Rattle.init_layout.specs.Writing.{partsFit, ciphersFit, writeInit1, writeInit2}
 use Rattle.init_writer.proofs.Putting.{next, says-unfit, says-no-room, says-wrote}
 
 -- the fields in a row
@@ -49,18 +49,22 @@ module _ (nonce key : List ℕ) (n : ℕ) where
 module _ (t : ℕ) (ciphers nonce key s : List ℕ) where
   pub init1-parts : partsFit t nonce key ≡ false → writtenAs (refusedWith 3) s ≡ writeInit1 t ciphers nonce key s
   unfolding writeInit1
-  init1-parts e = says-unfit _ (init1Bytes ciphers nonce key) s (ap (λ b. b && leb (length ciphers) 255) e)
+  init1-parts e = says-unfit _ (init1Bytes ciphers nonce key) s (ap (λ b. b && ciphersFit ciphers) e)
 
-  pub init1-many : partsFit t nonce key ≡ true → 255 < length ciphers → writtenAs (refusedWith 3) s ≡ writeInit1 t ciphers nonce key s
-  unfolding writeInit1
-  init1-many e h = says-unfit _ (init1Bytes ciphers nonce key) s (ap (λ b. b && leb (length ciphers) 255) e ∙ lt-leb _ _ h)
+  pub init1-few : ciphersFit ciphers ≡ true → length ciphers ≤ 255
+  init1-few e = ciphers-listed ciphers e .few
 
-  module _ (fit : partsFit t nonce key ≡ true) (few : length ciphers ≤ 255) where
-    all-fit : partsFit t nonce key && leb (length ciphers) 255 ≡ true
-    all-fit = ap (λ b. b && leb (length ciphers) 255) fit ∙ le-leb _ _ few
-
+  module _ (fit : partsFit t nonce key ≡ true) where
     pub init1-small : length key ≤ 56
     init1-small = omega (arith, parts t nonce key fit .key-long, keys-few t)
+
+    pub init1-list : ciphersFit ciphers ≡ false → writtenAs (refusedWith 3) s ≡ writeInit1 t ciphers nonce key s
+    unfolding writeInit1
+    init1-list e = says-unfit _ (init1Bytes ciphers nonce key) s (ap (λ b. b && ciphersFit ciphers) fit ∙ e)
+
+  module _ (fit : partsFit t nonce key ≡ true) (listed : ciphersFit ciphers ≡ true) where
+    all-fit : partsFit t nonce key && ciphersFit ciphers ≡ true
+    all-fit = ap (λ b. b && ciphersFit ciphers) fit ∙ listed
 
     long : length (init1Bytes ciphers nonce key) ≡ 9 + 2 * length ciphers + 32 + length key
     long = length-init1 nonce key (length key) (parts t nonce key fit .nonce-long) refl ciphers
@@ -130,25 +134,33 @@ module _ (t : ℕ) (ciphers nonce key s : List ℕ) where
 module _ (t cipher : ℕ) (nonce key s : List ℕ) where
   pub init2-parts : partsFit t nonce key ≡ false → writtenAs (refusedWith 3) s ≡ writeInit2 t cipher nonce key s
   unfolding writeInit2
-  init2-parts e = says-unfit _ (init2Bytes cipher nonce key) s e
+  init2-parts e = says-unfit _ (init2Bytes cipher nonce key) s (ap (λ b. b && not (eqb cipher 0)) e)
 
   module _ (fit : partsFit t nonce key ≡ true) where
     pub init2-small : length key ≤ 56
     init2-small = omega (arith, parts t nonce key fit .key-long, keys-few t)
+
+    pub init2-void : cipher ≡ 0 → writtenAs (refusedWith 3) s ≡ writeInit2 t cipher nonce key s
+    unfolding writeInit2
+    init2-void e = says-unfit _ (init2Bytes cipher nonce key) s (ap (λ b. b && not (eqb cipher 0)) fit ∙ ap not (eq-eqb cipher 0 e))
+
+  module _ (fit : partsFit t nonce key ≡ true) (named : cipher ≡ 0 → ⊥) where
+    both-fit : partsFit t nonce key && not (eqb cipher 0) ≡ true
+    both-fit = ap (λ b. b && not (eqb cipher 0)) fit ∙ ap not (ne-eqb cipher 0 named)
 
     long2 : length (init2Bytes cipher nonce key) ≡ 42 + length key
     long2 = length-init2 nonce key (length key) (parts t nonce key fit .nonce-long) refl cipher
 
     pub init2-no-room : length s < 42 + length key → writtenAs (refusedWith 5) s ≡ writeInit2 t cipher nonce key s
     unfolding writeInit2
-    init2-no-room h = says-no-room _ (init2Bytes cipher nonce key) s fit _ long2 h
+    init2-no-room h = says-no-room _ (init2Bytes cipher nonce key) s both-fit _ long2 h
 
     pub init2-wrote : 42 + length key ≤ length s
         → (t1 t2 t3 t4 t5 : List ℕ) → t1 ≡ pasted s 0 (magicOf init2) → t2 ≡ pasted t1 4 (bigEndian 4 (42 + length key)) → t3 ≡ pasted t2 8 (bigEndian 2 cipher)
         → t4 ≡ pasted t3 10 nonce → t5 ≡ pasted t4 42 key → writtenAs (wrote (42 + length key)) t5 ≡ writeInit2 t cipher nonce key s
     unfolding writeInit2
     init2-wrote room t1 t2 t3 t4 t5 e1 e2 e3 e4 e5 =
-        says-wrote _ (init2Bytes cipher nonce key) s fit n long2 room t5
+        says-wrote _ (init2Bytes cipher nonce key) s both-fit n long2 room t5
         (next s (a ++ b ++ d ++ nonce) t4 key t5 42
         (next s (a ++ b ++ d) t3 nonce t4 10
         (next s (a ++ b) t2 d t3 8

@@ -7,7 +7,7 @@ ghost use lib.ListN.{length};
 ghost use Rattle.wire.specs.Bytes.{pasted};
 ghost use Rattle.eno.specs.Option.{writtenAs};
 ghost use Rattle.init_layout.specs.Layout.{cipherBytes};
-ghost use Rattle.init_layout.specs.Writing.{partsFit, writeInit1, writeInit2};
+ghost use Rattle.init_layout.specs.Writing.{partsFit, ciphersFit, writeInit1, writeInit2};
 ghost use Rattle.init_layout.specs.Answers.{writingOf};
 
 // Whether TEP, nonce and key fit each other.
@@ -23,6 +23,22 @@ fn parts_fit(tep: u8, nonce: &[u8], key: &[u8]) -> bool
         return false;
     }
     key.len() == long
+}
+
+// Whether Init1 may list these ciphers: 1 to 255, none of them 0000.
+fn ciphers_fit(ciphers: &[u16]) -> bool
+    ensures { λ r. ⌜ r ≡ ciphersFit (now (ciphers .entry)) ⌝ }
+{
+    if ciphers.len() == 0 {
+        return false;
+    }
+    if 255 < ciphers.len() {
+        return false;
+    }
+    if init_steps::is_in(ciphers, 0x0000) {
+        return false;
+    }
+    true
 }
 
 // Writes the ciphers, two bytes each.
@@ -52,21 +68,23 @@ pub fn init1_write(
     if !parts_fit(tep, nonce, key) {
         return InitWritten::Unfit;
     }
-    if 255 < ciphers.len() {
+    if !ciphers_fit(ciphers) {
         return InitWritten::Unfit;
     }
     let at = 9 + 2 * ciphers.len();
-    let n = at + 32 + key.len();
+    let behind = at + 32;
+    let n = behind + key.len();
     if out.len() < n {
         return InitWritten::NoRoom;
     }
-    let count = [ciphers.len() as u8];
+    let long = ciphers.len() as u8;
+    let count = [long];
     wire::copy(out, 0, b"\x15\x10\x1a\x0e");
     wire_numbers::write_u32(out, 4, n as u32);
     wire::copy(out, 8, &count);
     put_ciphers(out, 9, ciphers);
     wire::copy(out, at, nonce);
-    wire::copy(out, at + 32, key);
+    wire::copy(out, behind, key);
     InitWritten::Written(n)
 }
 
@@ -75,6 +93,9 @@ pub fn init2_write(tep: u8, cipher: u16, nonce: &[u8], key: &[u8], out: &mut [u8
     ensures { λ r. ⌜ writtenAs (writingOf r) (now (out .exit)) ≡ writeInit2 tep cipher (now (nonce .entry)) (now (key .entry)) (now (out .entry)) ⌝ }
 {
     if !parts_fit(tep, nonce, key) {
+        return InitWritten::Unfit;
+    }
+    if cipher == 0x0000 {
         return InitWritten::Unfit;
     }
     let whole = 42 + key.len();

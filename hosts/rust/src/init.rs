@@ -99,7 +99,8 @@ fn init(numbers: &ffi::init::InitNumbers, tep: u8, room: usize) -> Result<Init, 
         (0, _) if count == 0 && cipher == 0 && zeros(&nonce) && zeros(&key) => Err(refusal(number)),
         (10, Some(key_length))
             if number <= room.min(INIT_LONGEST)
-                && count <= 255
+                && (1..=255).contains(&count)
+                && cipher != 0
                 && key.get(key_length..).is_some_and(zeros) =>
         {
             Ok(Init {
@@ -117,9 +118,9 @@ fn init(numbers: &ffi::init::InitNumbers, tep: u8, room: usize) -> Result<Init, 
 
 /// Writes an Init1, host A's message, and gives its length: 41 bytes, two for each cipher, and the key. `tep` is
 /// [`Tep::Curve25519`] with a key of 32 bytes or [`Tep::Curve448`] with one of 56; `ciphers` is the list from which host B takes the first
-/// that it has enabled; `nonce` is fresh.
+/// that it has enabled, 1 to 255 ciphers, none of them 0000; `nonce` is fresh.
 ///
-/// Refused: 3 where `tep` is another, the key's length does not fit, or `ciphers` has more than 255; 5.
+/// Refused: 3 where `tep` is another, the key's length does not fit, or `ciphers` has none, more than 255 or one that is 0000; 5.
 ///
 /// ```
 /// use door_link::{cipher, init1_read, init1_write, Enabled, Error, Refusal, Tep};
@@ -167,7 +168,7 @@ pub fn write1(
 
 /// Writes an Init2, host B's message, and gives its length: 42 bytes and the key. `cipher` is the one that was taken from the Init1.
 ///
-/// Refused: 3 where `tep` is another than the two of [`init1_write`], or the key's length does not fit; 5.
+/// Refused: 3 where `tep` is another than the two of [`init1_write`], the key's length does not fit, or `cipher` is 0000; 5.
 ///
 /// ```
 /// use door_link::{cipher, init2_read, init2_write, Error, Refusal, Tep};
@@ -211,7 +212,7 @@ pub fn write2(
 /// Reads an Init1 from its first byte on. Bytes past the message's length are not read, so that `bytes` may hold more than the message.
 ///
 /// Refused: 3 where `tep` is another than the two of [`init1_write`]; 8 where no continuation of `bytes` is readable (another magic, a length above
-/// 4,096 or too short for the fields); 9 where some continuation is; 10 where no listed cipher is enabled, once all of the message is there.
+/// 4,096 or too short for the fields, no ciphers, or a cipher 0000 of which both bytes are there); 9 where some continuation is; 10 where no listed cipher is enabled, once all of the message is there.
 #[inline]
 pub fn init1_read(tep: Tep, enabled: Enabled, bytes: &[u8]) -> Result<Init, Error> {
     read1(tep.number(), enabled, bytes)
@@ -227,7 +228,7 @@ pub fn read1(tep: u8, enabled: Enabled, bytes: &[u8]) -> Result<Init, Error> {
     )
 }
 
-/// Reads an Init2 from its first byte on; `own` is the list of this end's Init1.
+/// Reads an Init2 from its first byte on; `own` is the list of this end's Init1, which may be any list of at most 255 here.
 ///
 /// Refused: 3 where `tep` is another than the two of [`init1_write`], or `own` has more than 255 ciphers; 8 and 9 as for [`init1_read`]; 10 where the
 /// message's cipher is not in `own`, once all of the message is there.
@@ -276,6 +277,7 @@ mod tests {
 
         let mut taken = numbers(10, 100);
         taken.count = 255;
+        taken.cipher = 1;
         taken.key = [7; 56];
         let key = |tep, numbers| init(&numbers, tep, 100).map(|read| read.key().len());
         assert_eq!(key(0x24, taken), Ok(56));
@@ -288,7 +290,11 @@ mod tests {
         taken.number = 101;
         assert_eq!(key(0x23, taken), Err(Error::Unexpected));
         taken.number = 100;
-        taken.count = 256;
+        for count in [0, 256] {
+            taken.count = count;
+            assert_eq!(key(0x23, taken), Err(Error::Unexpected));
+        }
+        (taken.count, taken.cipher) = (255, 0);
         assert_eq!(key(0x23, taken), Err(Error::Unexpected));
         assert_eq!(init(&numbers(10, 4097), 0x23, 5000), Err(Error::Unexpected));
         for kind in (1..=255).filter(|kind| *kind != 10) {
@@ -306,8 +312,10 @@ mod tests {
             }
         }
         let out = &mut [][..];
-        let written = write1(0x23, &[], &[0; 32], &[0; 32], out);
+        let written = write1(0x23, &[1], &[0; 32], &[0; 32], out);
         assert_eq!(number(written), Some(Refusal::NoRoom));
+        let written = write1(0x23, &[], &[0; 32], &[0; 32], out);
+        assert_eq!(number(written), Some(Refusal::Unfit));
         let written = write1(0x23, &[], &[], &[], out);
         assert_eq!(number(written), Some(Refusal::Unfit));
         let written = write2(0x23, 1, &[], &[], out);

@@ -2,7 +2,6 @@
 use mathlib.Core.Path.{sym, _∙_, ap}
 use native.Mathlib.Omega.{arith}
 use borrow.Author.Tests.{not-true, not-false}
-use Rattle.init_layout.specs.Layout.{magicOf}
 use Rattle.init_steps.specs.Answers.{standingIn}
 use Rattle.init_reader.proofs.Receiving.{read2-many, read2-unfit, read2-unreadable, read2-incomplete, read2-room, read2-uncommon, read2-taken}
 use borrow.Author.Needs.{needs}
@@ -24,14 +23,8 @@ refused-requires-2 c κs = search needs
 returns-2 : tie.Need-returns-2
 returns-2 c = c .refused2 .ensures ∙ read2-unfit _ _ _ (omega arith) _ (c .before .before .keys-of .ensures .0) (omega arith)
 
-slice-aggregate-settle : tie.Need-slice-aggregate-settle
-slice-aggregate-settle c = search needs
-
-add-settle : tie.Need-add-settle
-add-settle c = search needs
-
-settle-requires : tie.Need-settle-requires
-settle-requires c κs = search needs
+progress2-requires : tie.Need-progress2-requires
+progress2-requires c κs = search needs
 
 enum-told : tie.Need-enum-told
 enum-told c = search needs
@@ -58,24 +51,19 @@ refused-requires-5 : tie.Need-refused-requires-5
 refused-requires-5 c κs = search needs
 
 returns-3 : tie.Need-returns-3
-unfolding magicOf
-returns-3 c = c .refused5 .ensures ∙ read2-uncommon _ (c .before .before .before .before .before .before .before .before .before .before .before .before .before .before .args .own .now) (c .before .before .before .before .before .before .before .before .before .before .before .before .before .before .args .bytes .now) (omega arith) _ (c .before .before .before .before .before .before .before .before .before .before .keys-of .ensures .0) (c .before .before .before .before .before .before .before .before .before .if2 .left) _ (c .before .before .before .before .before .before .before .settle .ensures) _ (ap standingIn (c .before .before .before .before .before .progress .given .1)) _ (c .before .before .before .read-u16 .ensures) (sym (c .before .before .is-in .ensures) ∙ not-true _ (c .before .if3 .taken))
+returns-3 c = c .refused5 .ensures ∙ read2-uncommon _ (c .before .before .before .before .before .before .before .before .before .before .before .before .before .args .own .now) (c .before .before .before .before .before .before .before .before .before .before .before .before .before .args .bytes .now) (omega arith) _ (c .before .before .before .before .before .before .before .before .before .keys-of .ensures .0) (c .before .before .before .before .before .before .before .before .if2 .left) _ (c .before .before .before .before .before .before .before .progress2 .ensures) _ (ap standingIn (c .before .before .before .before .before .progress .given .1)) _ (c .before .before .before .read-u16 .ensures) (sym (c .before .before .is-in .ensures) ∙ not-true _ (c .before .if3 .taken))
 
 taken-requires : tie.Need-taken-requires
-unfolding magicOf
-taken-requires c κs = (read2-room _ (c .before .before .before .before .before .before .before .before .before .before .before .before .before .args .own .now) (c .before .before .before .before .before .before .before .before .before .before .before .before .before .args .bytes .now) (omega arith) _ (c .before .before .before .before .before .before .before .before .before .keys-of .ensures .0) (c .before .before .before .before .before .before .before .before .if2 .left) _ (c .before .before .before .before .before .before .settle .ensures) _ (ap standingIn (c .before .before .before .before .progress .given .1)), c .before .before .before .before .before .before .before .before .before .keys-of .ensures .1)
+taken-requires c κs = (read2-room _ (c .before .before .before .before .before .before .before .before .before .before .before .before .args .own .now) (c .before .before .before .before .before .before .before .before .before .before .before .before .args .bytes .now) (omega arith) _ (c .before .before .before .before .before .before .before .before .keys-of .ensures .0) (c .before .before .before .before .before .before .before .if2 .left) _ (c .before .before .before .before .before .before .progress2 .ensures) _ (ap standingIn (c .before .before .before .before .progress .given .1)), c .before .before .before .before .before .before .before .before .keys-of .ensures .1)
 
 returns-4 : tie.Need-returns-4
-unfolding magicOf
-returns-4 c = c .refused3 .ensures ∙ read2-unreadable _ (c .before .before .before .before .before .before .before .before .before .before .args .own .now) (c .before .before .before .before .before .before .before .before .before .before .args .bytes .now) (omega arith) _ (c .before .before .before .before .before .before .keys-of .ensures .0) (c .before .before .before .before .before .if2 .left) _ (c .before .before .before .settle .ensures) (ap standingIn (c .before .enum-told .given .1))
+returns-4 c = c .refused3 .ensures ∙ read2-unreadable _ (c .before .before .before .before .before .before .before .before .before .args .own .now) (c .before .before .before .before .before .before .before .before .before .args .bytes .now) (omega arith) _ (c .before .before .before .before .before .keys-of .ensures .0) (c .before .before .before .before .if2 .left) _ (c .before .before .before .progress2 .ensures) (ap standingIn (c .before .enum-told .given .1))
 
 returns-5 : tie.Need-returns-5
-unfolding magicOf
-returns-5 c = c .refused4 .ensures ∙ read2-incomplete _ (c .before .before .before .before .before .before .before .before .before .before .args .own .now) (c .before .before .before .before .before .before .before .before .before .before .args .bytes .now) (omega arith) _ (c .before .before .before .before .before .before .keys-of .ensures .0) (c .before .before .before .before .before .if2 .left) _ (c .before .before .before .settle .ensures) (ap standingIn (c .before .enum-told2 .given .1))
+returns-5 c = c .refused4 .ensures ∙ read2-incomplete _ (c .before .before .before .before .before .before .before .before .before .args .own .now) (c .before .before .before .before .before .before .before .before .before .args .bytes .now) (omega arith) _ (c .before .before .before .before .before .keys-of .ensures .0) (c .before .before .before .before .if2 .left) _ (c .before .before .before .progress2 .ensures) (ap standingIn (c .before .enum-told2 .given .1))
 
 returns-6 : tie.Need-returns-6
-unfolding magicOf
-returns-6 c = c .taken .ensures ∙ read2-taken _ (c .before .before .before .before .before .before .before .before .before .before .before .before .before .before .args .own .now) (c .before .before .before .before .before .before .before .before .before .before .before .before .before .before .args .bytes .now) (omega arith) _ (c .before .before .before .before .before .before .before .before .before .before .keys-of .ensures .0) (c .before .before .before .before .before .before .before .before .before .if2 .left) _ (c .before .before .before .before .before .before .before .settle .ensures) _ (ap standingIn (c .before .before .before .before .before .progress .given .1)) _ (c .before .before .before .read-u16 .ensures) (sym (c .before .before .is-in .ensures) ∙ not-false _ (c .before .if3 .left))
+returns-6 c = c .taken .ensures ∙ read2-taken _ (c .before .before .before .before .before .before .before .before .before .before .before .before .before .args .own .now) (c .before .before .before .before .before .before .before .before .before .before .before .before .before .args .bytes .now) (omega arith) _ (c .before .before .before .before .before .before .before .before .before .keys-of .ensures .0) (c .before .before .before .before .before .before .before .before .if2 .left) _ (c .before .before .before .before .before .before .before .progress2 .ensures) _ (ap standingIn (c .before .before .before .before .before .progress .given .1)) _ (c .before .before .before .read-u16 .ensures) (sym (c .before .before .is-in .ensures) ∙ not-false _ (c .before .if3 .left))
 
 pub init2-read-spec : {M : Type 1} → statement M
 init2-read-spec =
@@ -86,9 +74,7 @@ init2-read-spec =
     keys-of-requires
     refused-requires-2
     returns-2
-    slice-aggregate-settle
-    add-settle
-    settle-requires
+    progress2-requires
     enum-told
     refused-requires-3
     enum-told-2

@@ -1,5 +1,5 @@
 -- `init_reader::key_at` meets its contract: the key fills the first bytes of an array of zeros.
-use Rattle.init_reader.proofs.Scanning.{key-filled}
+use Rattle.init_reader.proofs.Filling.{key-filled}
 use borrow.Author.Needs.{needs}
 use Rattle.init_reader.proofs.key_at.Statement.{statement}
 use Rattle.init_reader.proofs.key_at.Tie as tie

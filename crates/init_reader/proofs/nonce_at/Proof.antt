@@ -1,5 +1,5 @@
 -- `init_reader::nonce_at` meets its contract: the nonce fills its array.
-use Rattle.init_reader.proofs.Scanning.{nonce-filled}
+use Rattle.init_reader.proofs.Filling.{nonce-filled}
 use borrow.Author.Needs.{needs}
 use Rattle.init_reader.proofs.nonce_at.Statement.{statement}
 use Rattle.init_reader.proofs.nonce_at.Tie as tie

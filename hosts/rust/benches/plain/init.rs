@@ -34,6 +34,9 @@ fn write(
     if key_length(tep)? != key.len() || nonce.len() != 32 {
         return Err(3);
     }
+    if ciphers.is_empty() || ciphers.contains(&0) {
+        return Err(3);
+    }
     let length = 8 + usize::from(count.is_some()) + 2 * ciphers.len() + 32 + key.len();
     let out = out.get_mut(..length).ok_or(5)?;
     out[..4].copy_from_slice(&magic);
@@ -93,7 +96,7 @@ fn fields(magic: [u8; 4], counted: bool, key: usize, bytes: &[u8]) -> Result<Fie
     let (mut least, mut most) = ([0; 4], [0xff; 4]);
     least[..given.len()].copy_from_slice(given);
     most[..given.len()].copy_from_slice(given);
-    let base = 8 + 32 + key + if counted { 1 } else { 2 };
+    let base = 8 + 32 + key + if counted { 3 } else { 2 };
     if u32::from_be_bytes(least) > LONGEST || (u32::from_be_bytes(most) as usize) < base {
         return Err(8);
     }
@@ -107,7 +110,9 @@ fn fields(magic: [u8; 4], counted: bool, key: usize, bytes: &[u8]) -> Result<Fie
         at = 9;
     }
     let behind = at + 2 * count;
-    if length < behind + 32 + key {
+    let listed = &bytes[at.min(bytes.len())..behind.min(bytes.len())];
+    let void = listed.chunks_exact(2).any(|c| c == [0, 0]);
+    if count == 0 || void || length < behind + 32 + key {
         return Err(8);
     }
     let message = bytes.get(..length).ok_or(9)?;

@@ -69,7 +69,15 @@ fn read<I: Init>(init: &I, ask: &Ask, bytes: &[u8]) -> Answer<Read> {
 fn cipher(random: &mut Random) -> u16 {
     match random.below(5) {
         0 => random.word() as u16,
-        _ => random.pick(&[0, 1, 2, 0x10, 0x11, 0x0100, 0x1000]),
+        _ => random.pick(&[1, 2, 0x10, 0x11, 0x0100, 0x1000]),
+    }
+}
+
+/// One list of ten gets a cipher 0000.
+fn void(random: &mut Random, list: &mut [u16]) {
+    if !list.is_empty() && random.chance(10) {
+        let place = random.below(list.len());
+        list[place] = 0;
     }
 }
 
@@ -84,7 +92,8 @@ fn ask(random: &mut Random) -> Ask {
         (Kind::Second, _) => 1,
         (_, 0) => random.pick(&[254, 255, 256, 300]),
         (_, 1) => random.below(255),
-        _ => random.below(6),
+        (_, 2 | 3) => 0,
+        _ => random.from(1, 5),
     };
     let mut key = if tep == 0x24 { 56 } else { 32 };
     let mut nonce = 32;
@@ -111,6 +120,8 @@ fn ask(random: &mut Random) -> Ask {
             *one = random.pick(&[1, 2, 0x10]);
         }
     }
+    void(random, &mut ciphers);
+    void(random, &mut own);
     if !own.is_empty() && kind == Kind::Second && random.chance(50) {
         own[0] = ciphers[0];
     }
@@ -138,7 +149,7 @@ fn alter(random: &mut Random, message: &mut Vec<u8>) -> bool {
     };
     let written = message.len();
     let mut same = true;
-    match random.below(12) {
+    match random.below(14) {
         0 | 1 => {
             let more = random.from(1, 6);
             let tail = random.bytes(more);
@@ -168,9 +179,11 @@ fn alter(random: &mut Random, message: &mut Vec<u8>) -> bool {
                 72,
                 73,
                 74,
+                75,
                 96,
                 97,
                 98,
+                99,
                 0x0100_0000,
                 0x1_0000,
                 256,
@@ -178,6 +191,22 @@ fn alter(random: &mut Random, message: &mut Vec<u8>) -> bool {
             set(message, length);
             if random.chance(10) && length <= 4097 {
                 message.resize(length.max(written), 0x5a);
+            }
+            same = false;
+        }
+        6 => {
+            // A cipher that is 0000, the first or another.
+            let list = if message[0] == 0x15 { 9 } else { 8 };
+            let count = if list == 9 { message[8] } else { 1 };
+            let place = list + 2 * random.below(usize::from(count));
+            message[place..place + 2].fill(0);
+            same = false;
+        }
+        7 => {
+            // No ciphers, with room for as many as before or for none.
+            message[8] = 0;
+            if random.chance(50) {
+                set(message, written - 2);
             }
             same = false;
         }

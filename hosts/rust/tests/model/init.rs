@@ -42,6 +42,11 @@ struct Fields {
     key: Vec<u8>,
 }
 
+/// Whether a message may list these ciphers: at least one, and none that is 0000.
+fn named(ciphers: &[u16]) -> bool {
+    !ciphers.is_empty() && !ciphers.contains(&0)
+}
+
 /// Reads a message from its first byte on; nothing if it is not all there or not readable.
 fn read(kind: Kind, key: usize, bytes: &[u8]) -> Option<Fields> {
     let (magic, rest) = bytes.split_first_chunk::<4>()?;
@@ -60,19 +65,22 @@ fn read(kind: Kind, key: usize, bytes: &[u8]) -> Option<Fields> {
     }
     let list = rest.get(..2 * ciphers)?;
     let (nonce, rest) = rest[2 * ciphers..].split_first_chunk::<32>()?;
+    let pairs = list.chunks(2);
+    let ciphers: Vec<u16> = pairs.map(|c| u16::from_be_bytes([c[0], c[1]])).collect();
+    if !named(&ciphers) {
+        return None;
+    }
     Some(Fields {
         length: message.len(),
-        ciphers: list
-            .chunks(2)
-            .map(|c| u16::from_be_bytes([c[0], c[1]]))
-            .collect(),
+        ciphers,
         nonce: *nonce,
         key: rest.get(..key)?.to_vec(),
     })
 }
 
-/// Whether some continuation of the bytes at hand is readable. Every length is tried that they can begin, with zeros
-/// behind it: no cipher where the count is still missing, which leaves the most room.
+/// Whether some continuation of the bytes at hand is readable. Every length is tried that they can begin, with ones
+/// behind it: one cipher where the count is still missing, which leaves the most room, and no cipher that is 0000
+/// unless both its bytes are at hand.
 fn continues(kind: Kind, key: usize, bytes: &[u8]) -> bool {
     let lengths = match bytes.get(4..8) {
         Some(seen) => {
@@ -90,7 +98,7 @@ fn continues(kind: Kind, key: usize, bytes: &[u8]) -> bool {
         }
         let mut whole = bytes.to_vec();
         whole.extend(start.get(bytes.len()..).unwrap_or(&[]));
-        whole.resize(whole.len().max(LONGEST as usize), 0);
+        whole.resize(whole.len().max(LONGEST as usize), 1);
         read(kind, key, &whole).is_some()
     })
 }
@@ -113,7 +121,10 @@ fn write(
     key: &[u8],
     out: &mut [u8],
 ) -> Answer<usize> {
-    if key_length(tep) != Some(key.len()) || nonce.len() != 32 || ciphers.len() > 255 {
+    if key_length(tep) != Some(key.len()) || nonce.len() != 32 {
+        return Err(3);
+    }
+    if ciphers.len() > 255 || !named(ciphers) {
         return Err(3);
     }
     let mut body = Vec::new();
@@ -241,6 +252,12 @@ mod tests {
             Ok(583)
         );
         assert_eq!(number(init2_read(0x23, &[1; 256], &[])), 3);
+        for list in [&[][..], &[0], &[1, 0], &[0, 1]] {
+            let written = init1_write(0x23, list, &[0; 32], &[0; 32], &mut []);
+            assert_eq!(written, Err(3), "{list:?}");
+        }
+        assert_eq!(init2_write(0x23, 0, &[0; 32], &[0; 32], &mut []), Err(3));
+        assert_eq!(init1_write(0x23, &[1, 1], &[0; 32], &[0; 32], out), Ok(77));
     }
 
     #[test]
@@ -261,12 +278,12 @@ mod tests {
 
     #[test]
     fn least_lengths() {
-        for (tep, least) in [(0x23, 73), (0x24, 97)] {
+        for (tep, least) in [(0x23, 75), (0x24, 99)] {
             assert_eq!(number(init1_read(tep, ALL, &message(least - 1, 0, 8))), 8);
             assert_eq!(number(init1_read(tep, ALL, &message(least, 0, 8))), 9);
             let start = |length: u32| [&INIT2[..], &length.to_be_bytes()].concat();
-            assert_eq!(number(init2_read(tep, &[1], &start(least))), 8);
-            assert_eq!(number(init2_read(tep, &[1], &start(least + 1))), 9);
+            assert_eq!(number(init2_read(tep, &[1], &start(least - 2))), 8);
+            assert_eq!(number(init2_read(tep, &[1], &start(least - 1))), 9);
         }
     }
 
@@ -284,7 +301,40 @@ mod tests {
         assert_eq!(number(init1_read(0x23, ALL, &bytes[..75])), 9);
         assert_eq!(number(init1_read(0x23, ALL, &bytes[..76])), 10);
         assert_eq!(number(init1_read(0x23, ALL, &bytes)), 10);
-        assert_eq!(number(init1_read(0x23, ALL, &message(73, 0, 73))), 10);
+    }
+
+    #[test]
+    fn an_empty_list_settles_at_its_count() {
+        for length in [73, 75, 4096] {
+            let eight = if length < 75 { 8 } else { 9 };
+            assert_eq!(number(init1_read(0x23, ALL, &message(length, 0, 8))), eight);
+            assert_eq!(number(init1_read(0x23, ALL, &message(length, 0, 9))), 8);
+            let whole = message(length, 0, length as usize);
+            assert_eq!(number(init1_read(0x23, ALL, &whole)), 8);
+        }
+    }
+
+    #[test]
+    fn a_void_cipher_settles_at_its_second_byte() {
+        assert_eq!(first(0x23, "15 10 1a 0e 00 00 00 4b 01 00"), 9);
+        assert_eq!(first(0x23, "15 10 1a 0e 00 00 00 4b 01 00 01"), 9);
+        assert_eq!(first(0x23, "15 10 1a 0e 00 00 00 4b 01 00 00"), 8);
+        assert_eq!(first(0x23, "15 10 1a 0e 00 00 00 4d 02 00 01 00"), 9);
+        assert_eq!(first(0x23, "15 10 1a 0e 00 00 00 4d 02 00 01 00 00"), 8);
+        assert_eq!(first(0x23, "15 10 1a 0e 00 00 00 4b 01 00 01 00 00"), 9);
+        assert_eq!(second(0x23, "09 71 05 e0 00 00 00 4a 00"), 9);
+        assert_eq!(second(0x23, "09 71 05 e0 00 00 00 4a 00 00"), 8);
+        assert_eq!(second(0x23, "09 71 05 e0 00 00 00 4a 00 01 00 00"), 9);
+        // The list that A hands over is no message.
+        let void = hex("09 71 05 e0 00 00 00 4a 00 00");
+        assert_eq!(number(init2_read(0x23, &[0], &void)), 8);
+        let mut out = [0; 74];
+        init2_write(0x23, 1, &[0; 32], &[0; 32], &mut out).expect("written");
+        assert_eq!(number(init2_read(0x23, &[0], &out)), 10);
+        assert_eq!(
+            init2_read(0x23, &[0, 1], &out).map(|read| read.cipher),
+            Ok(1)
+        );
     }
 
     #[test]

@@ -20,6 +20,12 @@ enum Fault {
     TepWithV,
     /// Room for the longest key.
     RoomForLongest,
+    /// A cipher 0000 is seen once the message is all there.
+    VoidAtTheEnd,
+    /// 10 for a list of no ciphers, once the message is all there.
+    EmptyIsUncommon,
+    /// The least length of an Init1 with no ciphers.
+    LeastAsBefore,
     /// Associated data rebuilt, with reserved bits cleared.
     AssociatedRebuilt,
     /// 11 before 5.
@@ -78,6 +84,31 @@ impl Wrong {
         }
     }
 
+    /// Init bytes that a wrong reader takes these for.
+    fn mended(&self, bytes: &[u8]) -> Option<Vec<u8>> {
+        let first = *bytes.first()? == 0x15;
+        let length: [u8; 4] = bytes.get(4..8)?.try_into().ok()?;
+        let longer = u32::from_be_bytes(length).checked_add(2)?.to_be_bytes();
+        let mut other = bytes.to_vec();
+        match self.0 {
+            Fault::VoidAtTheEnd => {
+                let (list, count) = if first { (9, *bytes.get(8)?) } else { (8, 1) };
+                let list = other.get_mut(list..)?;
+                let voids = list.chunks_exact_mut(2).take(usize::from(count));
+                voids.filter(|c| **c == [0, 0]).for_each(|c| c[1] = 1);
+            }
+            Fault::EmptyIsUncommon if first && *bytes.get(8)? == 0 => {
+                other[4..8].copy_from_slice(&longer);
+                other.splice(8..9, [1, 0x77, 0x77]);
+            }
+            Fault::LeastAsBefore if first && bytes.len() == 8 => {
+                other[4..8].copy_from_slice(&longer);
+            }
+            _ => return None,
+        }
+        Some(other)
+    }
+
     /// What a reader gives, changed; `again` reads other bytes.
     fn read<T>(
         &self,
@@ -88,6 +119,11 @@ impl Wrong {
     ) -> Answer<T> {
         match answer {
             Err(8) if self.is(Fault::MagicIncomplete) && bytes.len() <= 4 => Err(9),
+            Err(8) => match self.mended(bytes).map(|other| again(&other)) {
+                Some(Err(9)) => Err(9),
+                Some(Err(10)) if self.is(Fault::EmptyIsUncommon) => Err(10),
+                _ => answer,
+            },
             Err(9) if self.is(Fault::CipherTooSoon) => {
                 let mut whole = bytes.to_vec();
                 whole.resize(bytes.len().max(4096), 0);
@@ -128,7 +164,8 @@ impl Init for Wrong {
     ) -> Answer<usize> {
         if self.is(Fault::RoomForLongest) && key.len() == 32 && nonce.len() == 32 {
             let need = 41 + 2 * ciphers.len() + 56;
-            if tep == 0x23 && ciphers.len() < 256 && out.len() < need {
+            let listed = (1..256).contains(&ciphers.len()) && !ciphers.contains(&0);
+            if tep == 0x23 && listed && out.len() < need {
                 return Err(5);
             }
         }
@@ -346,6 +383,9 @@ fn wrong_init_messages_are_seen() {
         Fault::NothingBehind,
         Fault::TepWithV,
         Fault::RoomForLongest,
+        Fault::VoidAtTheEnd,
+        Fault::EmptyIsUncommon,
+        Fault::LeastAsBefore,
     ];
     each_is_seen(&faults, against!(init::compare));
 }

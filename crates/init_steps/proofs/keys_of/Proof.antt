@@ -1,11 +1,11 @@
--- `init_reader::keys_of` meets its contract: the length is that of the TEP type.
+-- `init_steps::keys_of` meets its contract: the length is that of the TEP type.
 use mathlib.Core.Path.{ap}
 use native.Mathlib.Omega.{arith}
 use Rattle.eno.specs.Tep.{tepOf}
 use Rattle.init_layout.specs.Refusals.{keys-few}
 use borrow.Author.Needs.{needs}
-use Rattle.init_reader.proofs.keys_of.Statement.{statement}
-use Rattle.init_reader.proofs.keys_of.Tie as tie
+use Rattle.init_steps.proofs.keys_of.Statement.{statement}
+use Rattle.init_steps.proofs.keys_of.Tie as tie
 
 of-requires : tie.Need-of-requires
 of-requires c κs = search needs

@@ -1,2 +1,0 @@
--- The view of the cipher taken.
-pub mod Answers
