@@ -4,6 +4,7 @@ use door::EACH;
 use door::Refusal;
 use door::Reply;
 use door::View;
+use door_search::Sought;
 use eno::SessionRecord;
 ghost use mathlib.Core.Path.{_≡_};
 ghost use mathlib.Core.List.{[]};
@@ -73,7 +74,7 @@ pub fn store(view: View, free: bool, tep: u8, role: u8, identifier: &[u8], secre
     if !free {
         return refused(Refusal::Full);
     }
-    let first = record_tests::first_session(view, tep, identifier);
+    let first = door_search::first_sought(view, Sought::Named { tep }, identifier);
     if first < n {
         return refused(Refusal::AlreadyHeld);
     }
@@ -108,7 +109,7 @@ pub fn forget(view: View, tep: u8, identifier: &[u8]) -> Forgotten
         };
     }
     let n = door::held_count(view);
-    let place = record_tests::first_session(view, tep, identifier);
+    let place = door_search::first_sought(view, Sought::Named { tep }, identifier);
     if n <= place {
         return Forgotten {
             change: Change::Keep,

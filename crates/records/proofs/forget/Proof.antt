@@ -3,6 +3,7 @@ use mathlib.Core.Path.{_≡_, sym, _∙_}
 use mathlib.Core.Bool.{true}
 use native.Mathlib.Omega.{arith}
 use borrow.Author.Tests.{not-true, not-false}
+use Rattle.door_search.specs.Laws.{first-named}
 use borrow.Author.Needs.{needs}
 use denote.Ref.{now}
 use Rattle.door.specs.Door.{seenOf}
@@ -25,8 +26,8 @@ returns c = forget-unfit (seenOf (c .before .before .before .args .view)) _ _ (s
 held-count-requires : tie.Need-held-count-requires
 held-count-requires c κs = search needs
 
-first-session-requires : tie.Need-first-session-requires
-first-session-requires c κs = search needs
+first-sought-requires : tie.Need-first-sought-requires
+first-sought-requires c κs = search needs
 
 returns-2 : tie.Need-returns-2
 unfolding seenOf
@@ -34,15 +35,15 @@ returns-2 c =
     let b = c .before .before .before in
     let v = seenOf (b .before .before .before .args .view) in
     forget-not-held v _ _ (fit b)
-    (is-not-held _ _ _ (omega (arith, c .before .before .held-count .ensures .seen, c .before .first-session .ensures)))
+    (is-not-held _ _ _ (omega (arith, c .before .before .held-count .ensures .seen, c .before .first-sought .ensures ∙ first-named _ _ _)))
 
 returns-3 : tie.Need-returns-3
 unfolding seenOf
 returns-3 c =
     let b = c .before .before .before in
     let v = seenOf (b .before .before .before .args .view) in
-    forget-removes v _ _ (fit b) _ (c .before .first-session .ensures)
-    (is-held _ _ _ (omega (arith, c .before .before .held-count .ensures .seen, c .before .first-session .ensures)))
+    forget-removes v _ _ (fit b) _ (c .before .first-sought .ensures ∙ first-named _ _ _)
+    (is-held _ _ _ (omega (arith, c .before .before .held-count .ensures .seen, c .before .first-sought .ensures ∙ first-named _ _ _)))
 
 pub forget-spec : {M : Type 1} → statement M
 forget-spec =
@@ -51,6 +52,6 @@ forget-spec =
     is-named-requires
     returns
     held-count-requires
-    first-session-requires
+    first-sought-requires
     returns-2
     returns-3)

@@ -4,6 +4,7 @@ use mathlib.Core.Path.{_≡_, sym, _∙_, ap₂}
 use mathlib.Core.Bool.{true, false}
 use native.Mathlib.Omega.{arith}
 use borrow.Author.Tests.{not-true, not-false}
+use Rattle.door_search.specs.Laws.{first-named}
 use borrow.Author.Needs.{needs}
 use denote.Ref.{now}
 use lib.ListN.{length}
@@ -41,10 +42,10 @@ room c = omega (arith, c .before .held-count .ensures .seen)
 
 -- the record is held, or not
 held : (c : tie.Then4) → let s = from (c .before .before .before .before .before) in isHeld (s .args .tep) (now (s .args .identifier)) (seen s .held) ≡ true
-held c = is-held _ _ _ (omega (arith, c .before .before .before .before .held-count .ensures .seen, c .before .first-session .ensures))
+held c = is-held _ _ _ (omega (arith, c .before .before .before .before .held-count .ensures .seen, c .before .first-sought .ensures ∙ first-named _ _ _))
 
 new : (c : tie.Else4) → let s = from (c .before .before .before .before .before) in isHeld (s .args .tep) (now (s .args .identifier)) (seen s .held) ≡ false
-new c = is-not-held _ _ _ (omega (arith, c .before .before .before .before .held-count .ensures .seen, c .before .first-session .ensures))
+new c = is-not-held _ _ _ (omega (arith, c .before .before .before .before .held-count .ensures .seen, c .before .first-sought .ensures ∙ first-named _ _ _))
 
 is-record-requires : tie.Need-is-record-requires
 is-record-requires c κs = search needs
@@ -84,8 +85,8 @@ returns-3 c =
     stores-nothing _ _ _ _ (c .refused3 .ensures)
     (store-no-row _ (seen (from b)) _ _ _ _ (fit b) (room r) (not-true _ (c .before .if3 .taken)))
 
-first-session-requires : tie.Need-first-session-requires
-first-session-requires c κs = search needs
+first-sought-requires : tie.Need-first-sought-requires
+first-sought-requires c κs = search needs
 
 refused-requires-4 : tie.Need-refused-requires-4
 refused-requires-4 c κs = search needs
@@ -146,7 +147,7 @@ store-spec =
     returns-2
     refused-requires-3
     returns-3
-    first-session-requires
+    first-sought-requires
     refused-requires-4
     returns-4
     is-in-hand-requires

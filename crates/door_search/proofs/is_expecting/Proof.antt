@@ -1,11 +1,11 @@
--- `tep_choice::is_expecting` meets its contract.
+-- `door_search::is_expecting` meets its contract.
 use mathlib.Core.Path.{_≡_, refl, sym, _∙_, ap}
 use native.Mathlib.Omega.{arith}
 use lib.ListN.{length, length-map}
-use Rattle.tep_choice.proofs.Entries.{expects-other, expects-first, expects-second}
+use Rattle.door_search.proofs.Half.{expects-other, expects-first, expects-second}
 use borrow.Author.Needs.{needs}
-use Rattle.tep_choice.proofs.is_expecting.Statement.{statement}
-use Rattle.tep_choice.proofs.is_expecting.Tie as tie
+use Rattle.door_search.proofs.is_expecting.Statement.{statement}
+use Rattle.door_search.proofs.is_expecting.Tie as tie
 
 eighteen : (c : tie.Start) → length (c .args .session .identifier) ≡ 18
 eighteen c = simp length-map at (c .good .0 .1 .1 .1 .1 .0 .1 .0 .1)

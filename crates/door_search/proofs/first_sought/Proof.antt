@@ -1,4 +1,4 @@
--- `offering::first_listed` meets its contract. The loop's invariant: none of the first i records passes the test.
+-- `door_search::first_sought` meets its contract. The loop's invariant: none of the first i records passes the test.
 use Prim.Native.Nat.{ℕ, _+_, _-_, _≤_, _<_}
 use mathlib.Core.List.{List}
 use mathlib.Core.Bool.{Bool, true, false}
@@ -11,20 +11,20 @@ use Rattle.eno.specs.declared.SessionRecord.{SessionRecord}
 use Rattle.door.specs.Numbers.{eachN}
 use Rattle.door.specs.Record.{firstThat, pastEnd}
 use Rattle.door.specs.Door.{seenOf}
-use Rattle.offering.specs.Steps.{isOfListed}
+use Rattle.door_search.specs.Search.{isSought}
 use Rattle.door.specs.Laws.First.{seen-at, first-here, first-later, first-nowhere}
-use Rattle.offering.proofs.first_listed.Statement.{statement}
-use Rattle.offering.proofs.first_listed.Tie as tie
+use Rattle.door_search.proofs.first_sought.Statement.{statement}
+use Rattle.door_search.proofs.first_sought.Tie as tie
 
 abbrev Inv-loop : tie.InvT-loop
-Inv-loop teps view n i₀ i =
-    (i ≤ n) × (firstThat (isOfListed teps) (seenOf view .held) ≡ i + firstThat (isOfListed teps) (drop i (seenOf view .held)))
+Inv-loop sought bytes view n i₀ i =
+    (i ≤ n) × (firstThat (isSought sought bytes) (seenOf view .held) ≡ i + firstThat (isSought sought bytes) (drop i (seenOf view .held)))
 
 abbrev μ-loop : tie.MeasureT-loop
-μ-loop teps view n i₀ i = n - i
+μ-loop sought bytes view n i₀ i = n - i
 
 -- the record at i, once it was compared
-module _ (c : tie.After-is-listed Inv-loop μ-loop) where
+module _ (c : tie.After-is-sought Inv-loop μ-loop) where
   abbrev from : tie.Start Inv-loop μ-loop
   from = c .before .before .before .before .before .before
 
@@ -37,11 +37,10 @@ module _ (c : tie.After-is-listed Inv-loop μ-loop) where
   below : place < length shown
   below = omega (arith, c .before .before .before .before .held-count .ensures .seen)
 
-  compared : (b : Bool) → c .is-listed .result ≡ b → isOfListed (now (from .args .teps)) (getD shown place pastEnd) ≡ b
-  unfolding isOfListed
+  compared : (b : Bool) → c .is-sought .result ≡ b → isSought (from .args .sought) (now (from .args .bytes)) (getD shown place pastEnd) ≡ b
   compared b e =
-      ap (isOfListed (now (from .args .teps))) (seen-at (from .args .t1) place below)
-      ∙ (sym (c .is-listed .ensures) ∙ e)
+      ap (isSought (from .args .sought) (now (from .args .bytes))) (seen-at (from .args .t1) place below)
+      ∙ (sym (c .is-sought .ensures) ∙ e)
 
 held-count-requires : tie.Need-held-count-requires Inv-loop μ-loop
 held-count-requires c κs = search needs
@@ -57,8 +56,8 @@ element-copy-out-session : tie.Need-element-copy-out-session Inv-loop μ-loop
 unfolding eachN
 element-copy-out-session c = omega arith
 
-is-listed-requires : tie.Need-is-listed-requires Inv-loop μ-loop
-is-listed-requires c κs = search needs
+is-sought-requires : tie.Need-is-sought-requires Inv-loop μ-loop
+is-sought-requires c κs = search needs
 
 returns : tie.Need-returns Inv-loop μ-loop
 returns c = let x = c .before in first-here _ (shown x) (place x) (x .before .before .before .loop .inv .1) (below x) (compared x true (c .if1 .taken))
@@ -80,8 +79,8 @@ returns-2 c =
     let l = c .before .loop in
     omega (arith, n .seen, first-nowhere _ (seenOf (a .t1) .held) (l .i) (l .inv .1) (omega (arith, n .seen)))
 
-pub first-listed-spec : {M : Type 1} → statement M
-first-listed-spec =
+pub first-sought-spec : {M : Type 1} → statement M
+first-sought-spec =
     tie.close
     (tie.spec
     Inv-loop
@@ -90,7 +89,7 @@ first-listed-spec =
     loop-holds
     mul-session
     element-copy-out-session
-    is-listed-requires
+    is-sought-requires
     returns
     add-i
     loop-less
