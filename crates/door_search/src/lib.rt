@@ -42,7 +42,7 @@ fn is_sought(session: SessionRecord, sought: Sought, bytes: &[u8]) -> bool
 pub fn first_sought(view: View, sought: Sought, bytes: &[u8]) -> usize
     ensures { λ r. ⌜ r ≡ firstThat (isSought sought (now (bytes .entry))) (seenOf view .held) ⌝ }
 {
-    let n = door::held_count(view);
+    let n = door_counts::held_count(view);
     let mut i = 0;
     while i < n {
         let session = view.held[i];

@@ -27,7 +27,7 @@ fn offered_at(view: View, resume: bool, teps: &[u8]) -> usize
     if resume {
         return door_search::first_sought(view, Sought::Listed, teps);
     }
-    door::held_count(view)
+    door_counts::held_count(view)
 }
 
 fn offered_door(own: &[u8], mandatory: bool, hand: InHand) -> Door
@@ -70,7 +70,7 @@ fn propose(
     requires { ⌜ offerFits b (now teps) (recordAt (seenOf view .held) j) (now nonce) ≡ true ⌝ }
     ensures { λ r. ⌜ outcomeAs (replyOf (r .reply) []) (now (out .exit)) (r .door) (effectOf (r .change) noSession) ≡ proposed (seenOf view) b aware mandatory (now (teps .entry)) j (now (nonce .entry)) (now (out .entry)) ⌝ }
 {
-    let n = door::held_count(view);
+    let n = door_counts::held_count(view);
     let hand = opening::hand_at(view, j);
     let said = option_writer::write_offer(b, aware, teps, hand, nonce, out);
     match said {

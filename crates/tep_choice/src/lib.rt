@@ -40,18 +40,18 @@ fn is_candidate(e: Entry) -> bool
     if e.times != 1 {
         return false;
     }
-    !suboptions::is_bad(e)
+    !suboption_data::is_bad(e)
 }
 
 // The oldest record that can be resumed with the TEP t, by what A sent of it; the number of records where there is none.
 fn fitting(view: View, option: &[u8], e: Entry, t: u8) -> usize
     ensures { λ r. ⌜ r ≡ fittingBy (now (option .entry)) t e (seenOf view .held) ⌝ }
 {
-    let n = door::held_count(view);
+    let n = door_counts::held_count(view);
     if !is_candidate(e) {
         return n;
     }
-    if suboptions::is_fresh(e) {
+    if suboption_data::is_fresh(e) {
         return n;
     }
     let at = e.start as usize;
@@ -62,7 +62,7 @@ fn fitting(view: View, option: &[u8], e: Entry, t: u8) -> usize
 fn last_resumed(view: View, option: &[u8], entries: [Entry; 4], teps: &[u8]) -> Decision
     ensures { λ r. ⌜ decisionOf r ≡ lastResumed (now (option .entry)) entries (now (teps .entry)) (seenOf view .held) ⌝ }
 {
-    let n = door::held_count(view);
+    let n = door_counts::held_count(view);
     let mut i = teps.len();
     while 0 < i {
         i -= 1;
@@ -85,7 +85,7 @@ fn last_resumed(view: View, option: &[u8], entries: [Entry; 4], teps: &[u8]) -> 
 fn last_fresh(view: View, entries: [Entry; 4], teps: &[u8]) -> Decision
     ensures { λ r. ⌜ decisionOf r ≡ lastFresh entries (now (teps .entry)) (seenOf view .held) ⌝ }
 {
-    let n = door::held_count(view);
+    let n = door_counts::held_count(view);
     let mut i = teps.len();
     while 0 < i {
         i -= 1;
