@@ -104,12 +104,12 @@ static void any_bytes(void) {
     }
 }
 
-/* Eight bytes that name the door of a record, all along its identifier and its secret. */
+/* Eight bytes that name the door of a record, its number and one, all along its identifier and its secret. */
 static const uint8_t mark[4] = {0xd7, 0x5e, 0xc2, 0xe9};
 
 static void mark_bytes(uint8_t *bytes, size_t length, size_t door, uint32_t serial) {
     for (size_t i = 0; i < length; i++) {
-        const uint8_t eight[8] = {mark[0], mark[1], mark[2], mark[3], (uint8_t)door, (uint8_t)serial, (uint8_t)(serial >> 8), (uint8_t)(serial >> 16)};
+        const uint8_t eight[8] = {mark[0], mark[1], mark[2], mark[3], (uint8_t)(door + 1), (uint8_t)serial, (uint8_t)(serial >> 8), (uint8_t)(serial >> 16)};
         bytes[i] = eight[i % 8];
     }
 }
@@ -122,7 +122,9 @@ static bool another_door_left(size_t door) {
     const uint8_t *at = painted_stack, *end = painted_stack + sizeof painted_stack - 8;
     while ((at = memchr(at, mark[0], (size_t)(end - at)))) {
         if (memcmp(at, mark, sizeof mark) == 0) {
-            if (at[4] != door) return true;
+            /* A copy may be cut off behind its mark, with other bytes there: then those before it name the door. */
+            const bool own = at[4] == door + 1 || (at >= painted_stack + 4 && at[-4] == door + 1);
+            if (!own) return true;
             own_marks++;
         }
         at++;

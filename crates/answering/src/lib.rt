@@ -73,7 +73,7 @@ fn respond(
     requires { ⌜ (length (now option) ≤ 40) × (answerFits tep (recordAt (seenOf view .held) at) (now nonce) ≡ true) ⌝ }
     ensures { λ r. ⌜ outcomeAs (replyOf (r .reply) []) (now (out .exit)) (r .door) (effectOf (r .change) noSession) ≡ responded (seenOf view) aware mandatory (now (option .entry)) (now (nonce .entry)) (now (out .entry)) (with (chosen tep at)) ⌝ }
 {
-    let n = door::held_count(view);
+    let n = door_counts::held_count(view);
     let hand = opening::hand_at(view, at);
     let said = option_answer::write_answer(aware, tep, hand, nonce, out);
     match said {
@@ -123,7 +123,7 @@ pub fn answer(
     let decision = deciding::decide(view, area, option, mandatory, teps);
     match decision {
         Decision::Plain(cause) => {
-            let after = door::plain_door(cause);
+            let after = door_values::plain_door(cause);
             Opening {
                 door: after,
                 change: Change::Keep,

@@ -28,7 +28,7 @@ fn record_answer(g: GenerationRecord) -> Answer {
         g.remote as u64,
         g.last as u64,
         said::flag(g.fin),
-        said::flag(generation::is_owed(g)),
+        said::flag(generation_record::is_owed(g)),
     )
 }
 

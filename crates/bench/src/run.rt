@@ -117,7 +117,7 @@ fn generation_line(g: GenerationRecord, line: &[u8]) -> GenerationRecord {
 fn other_line(g: GenerationRecord, line: &[u8]) -> GenerationRecord {
     if !is_call(line) {
         name(line);
-        return generation::first_record();
+        return generation_record::first_record();
     }
     if read::has(line, word::INIT) {
         init_line(line);
@@ -136,7 +136,7 @@ fn other_line(g: GenerationRecord, line: &[u8]) -> GenerationRecord {
 
 // A table of the other libraries' calls.
 pub fn table(table: &[u8]) {
-    let mut g = generation::first_record();
+    let mut g = generation_record::first_record();
     let mut at = 0;
     while at < table.len() {
         let end = text_words::place_of(table, at, b'\n');

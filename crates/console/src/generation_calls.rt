@@ -62,7 +62,7 @@ fn lend(words: &[u64], out: &mut [u8]) -> Called {
 }
 
 fn owed(record: GenerationRecord, out: &mut [u8]) -> Called {
-    let end = put_counted(out, b"owed", bit(generation::is_owed(record)));
+    let end = put_counted(out, b"owed", bit(generation_record::is_owed(record)));
     Called { record, end }
 }
 
@@ -70,12 +70,12 @@ fn owed(record: GenerationRecord, out: &mut [u8]) -> Called {
 pub fn call(record: GenerationRecord, form: usize, words: &[u64], out: &mut [u8]) -> Called {
     match form {
         20 => lend(words, out),
-        21 => answered(out, generation::send(record, flag(words, 0))),
+        21 => answered(out, generation_send::send(record, flag(words, 0))),
         22 => answered(
             out,
-            generation::initiate(record, flag(words, 0), flag(words, 1)),
+            generation_initiate::initiate(record, flag(words, 0), flag(words, 1)),
         ),
-        23 => answered(out, generation::receive(record, flag(words, 0))),
+        23 => answered(out, generation_receive::receive(record, flag(words, 0))),
         _ => owed(record, out),
     }
 }

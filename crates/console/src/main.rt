@@ -223,7 +223,7 @@ fn run() {
     let door = [0u8; PLACE];
     let mut doors = [door; DOORS];
     link_unit::erase(&mut marks, &mut rows, &mut doors);
-    let mut record = generation::first_record();
+    let mut record = generation_record::first_record();
     let mut chunk = [0u8; 65536];
     // A line's 20,000 bytes, and a carriage return.
     let mut line = [0u8; 20001];

@@ -57,7 +57,7 @@ pub fn decide<'a>(
     if option.len() == 0 {
         return missed(area);
     }
-    let s = suboptions::summarize(option);
+    let s = suboption_summary::summarize(option);
     if s.ill_formed {
         return plain(3);
     }

@@ -5,7 +5,7 @@ use mathlib.Core.List.{List}
 use native.Mathlib.Omega.{arith}
 use borrow.Author.Tests.{le-leb}
 use lib.Dec.{leb}
-use lib.ListN.{length, take, drop}
+use lib.ListN.{length, take, drop, length-take}
 use Rattle.door.specs.Door.{kept, ownOption, peerOption}
 use Rattle.door.specs.declared.Door.{Door}
 use Rattle.door_data.specs.Kept.{keptOption}
@@ -26,3 +26,12 @@ own-stored d n e = stored (d .«own_length») n (d .own) e
 pub peer-stored : (d : Door) (n : ℕ) → n ≡ min (d .«peer_length») 40 → take (n - 0) (drop 0 (d .peer)) ≡ peerOption d
 unfolding peerOption
 peer-stored d n e = stored (d .«peer_length») n (d .peer) e
+
+-- the bytes of a stored option are as many as count
+pub own-long : (d : Door) (n : ℕ) → length (d .own) ≡ 40 → n ≡ min (d .«own_length») 40 → length (ownOption d) ≡ n
+unfolding ownOption
+own-long d n l e = simp length-take (omega arith)
+
+pub peer-long : (d : Door) (n : ℕ) → length (d .peer) ≡ 40 → n ≡ min (d .«peer_length») 40 → length (peerOption d) ≡ n
+unfolding peerOption
+peer-long d n l e = simp length-take (omega arith)

@@ -1,9 +1,9 @@
 // Rekeying on a record that is lent: the steps of crate `generation`, each changing the connection's record in place.
 use generation::GenerationRecord;
 use generation::GenerationReply;
-use generation::initiate;
-use generation::receive;
-use generation::send;
+use generation_initiate::initiate;
+use generation_receive::receive;
+use generation_send::send;
 ghost use mathlib.Core.Path.{_≡_};
 ghost use Rattle.generation.specs.Steps.{Ask, outcome};
 ghost use Rattle.generation.specs.Answers.{lent};

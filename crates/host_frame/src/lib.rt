@@ -1,8 +1,8 @@
 // Frames: offsets and headers.
+use host_frame_header_numbers::header_numbers;
 use host_frame_numbers::HeaderNumbers;
-use host_frame_numbers::header_numbers;
-use host_frame_numbers::next_numbers;
-use host_frame_numbers::written_numbers;
+use host_frame_offset_numbers::next_numbers;
+use host_frame_offset_numbers::written_numbers;
 use host_reply::ReplyNumbers;
 ghost use mathlib.Core.Path.{_≡_};
 ghost use Rattle.frame_layout.specs.Calls.{Ask, outcome};

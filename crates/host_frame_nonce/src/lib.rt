@@ -1,7 +1,7 @@
 // Frames: frame IDs and nonces.
+use host_frame_nonce_numbers::nonce_numbers;
 use host_frame_numbers::FrameId;
 use host_frame_numbers::NonceNumbers;
-use host_frame_numbers::nonce_numbers;
 ghost use mathlib.Core.Path.{_≡_};
 ghost use Rattle.wire.specs.Frame.{frameId};
 ghost use Rattle.frame_layout.specs.Calls.{Ask, outcome};

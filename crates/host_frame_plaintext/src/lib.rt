@@ -1,7 +1,7 @@
 // Frames: plaintexts.
 use host_frame_numbers::PlaintextNumbers;
-use host_frame_numbers::plaintext_numbers;
-use host_frame_numbers::plaintext_written_numbers;
+use host_frame_plaintext_numbers::plaintext_numbers;
+use host_frame_plaintext_numbers::plaintext_written_numbers;
 use host_reply::ReplyNumbers;
 ghost use mathlib.Core.Path.{_≡_};
 ghost use Rattle.frame_layout.specs.Calls.{Ask, outcome};

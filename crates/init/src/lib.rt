@@ -5,5 +5,5 @@ pub use init_layout::InitRead;
 pub use init_layout::InitWritten;
 pub use init_reader::init1_read;
 pub use init_reader::init2_read;
-pub use init_writer::init1_write;
-pub use init_writer::init2_write;
+pub use init1_writer::init1_write;
+pub use init2_writer::init2_write;

@@ -67,14 +67,14 @@ pub fn init1_read(tep: u8, enabled: Enabled, bytes: &[u8]) -> InitRead
     if keys == 0 {
         return refused(InitAnswer::Unfit);
     }
-    let progress = init_steps::progress1(tep, bytes);
+    let progress = init_progress::progress1(tep, bytes);
     match progress {
         Progress::Unreadable => refused(InitAnswer::Unreadable),
         Progress::Incomplete => refused(InitAnswer::Incomplete),
         Progress::Whole(n) => {
             let count = init_steps::count_of(bytes);
             let at = 9 + 2 * count;
-            let choice = init_steps::first_enabled(enabled, bytes);
+            let choice = init_choice::first_enabled(enabled, bytes);
             match choice {
                 Choice::Nothing => refused(InitAnswer::NoCommonCipher),
                 Choice::Took(cipher) => taken(cipher, count, n, bytes, at, keys),
@@ -94,13 +94,13 @@ pub fn init2_read(tep: u8, own: &[u16], bytes: &[u8]) -> InitRead
     if size == 0 {
         return refused(InitAnswer::Unfit);
     }
-    let progress = init_steps::progress2(tep, bytes);
+    let progress = init_progress::progress2(tep, bytes);
     match progress {
         Progress::Unreadable => refused(InitAnswer::Unreadable),
         Progress::Incomplete => refused(InitAnswer::Incomplete),
         Progress::Whole(n) => {
             let cipher = wire_numbers::read_u16(bytes, 8);
-            if !init_steps::is_in(own, cipher) {
+            if !init_listed::is_in(own, cipher) {
                 return refused(InitAnswer::NoCommonCipher);
             }
             taken(cipher, 1, n, bytes, 10, size)

@@ -1,6 +1,2 @@
--- Laws that the proofs share.
-pub mod Standing
-pub mod Voids
-pub mod Progressing
-pub mod Ciphers
-pub mod Scanning
+-- Laws that the proofs use.
+pub mod Counting

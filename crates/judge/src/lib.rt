@@ -46,7 +46,7 @@ fn negotiate<'a>(own: &'a [u8], peer: &'a [u8], hand: InHand, s: Summary, p: Sum
     let b = judgement::host_b_option(own, peer, own_is_b);
     let mine = s.teps;
     let theirs = p.teps;
-    let best = valid_tep::best_of(a, b, hand, own_is_b, mine, theirs);
+    let best = valid_tep_best::best_of(a, b, hand, own_is_b, mine, theirs);
     conclude(a, b, s.role, best)
 }
 
@@ -67,8 +67,8 @@ pub fn judge<'a>(
     if peer.len() == 0 {
         return judge_missed::not_found(own_area, own, peer_area, peer);
     }
-    let s = suboptions::summarize(own);
-    let p = suboptions::summarize(peer);
+    let s = suboption_summary::summarize(own);
+    let p = suboption_summary::summarize(peer);
     if s.ill_formed {
         return judgement::without_transcript(Verdict::Plain(Reason::IllFormed));
     }

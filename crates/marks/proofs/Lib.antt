@@ -1,3 +1,2 @@
 -- Laws of marks in words.
 pub mod Words
-pub mod Places

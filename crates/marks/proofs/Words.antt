@@ -1,12 +1,10 @@
--- The lowest unmarked row, word after word: the trailing zeros of the inverted word, and a word that is full.
-use mathlib.Core.Path.{_≡_, refl, sym, ap, _∙_}
+-- The first free row of words of marks: in the first word, or behind it. Assumes nothing.
+use mathlib.Core.Path.{_≡_, refl, ap, _∙_}
 use mathlib.Core.Bool.{Bool, true, false, cond}
 use mathlib.Core.List.{List, [], _∷_, _++_}
-use Prim.Native.Nat.{ℕ, zero, suc, _+_, _-_, _*_, _/_, _%_, _^_, _≤_, _<_}
-use native.Mathlib.Nat.{pow-suc}
+use Prim.Native.Nat.{ℕ, zero, suc, _+_, _-_, _≤_, _<_}
 use native.Mathlib.Numerals.{add-one}
 use native.Mathlib.Omega.{arith}
-use lib.Count.{trailingZeros, under}
 use lib.Dec.{ltb}
 use lib.ListN.{length, getD, drop, drop-of-length-le}
 use lib.Seq.{drop-cons}
@@ -14,23 +12,7 @@ use borrow.Author.Tests.{lt-ltb, le-ltb, ltb-true, ltb-false}
 use Rattle.unit.specs.Numbers.{wordN}
 use Rattle.unit.specs.Marks.{bitsOf, marksIn}
 use Rattle.unit.specs.Unit.{orNext, firstFree}
-use Rattle.unit.specs.Laws.Marks.{length-bits, low-le}
-
-under-next : (m x : ℕ) → m ≤ 1 → under (1 - m) x ≡ orNext m x
-unfolding orNext
-under-next zero x h = refl
-under-next (suc zero) x h = refl
-under-next (suc (suc m)) x h = absurd (omega arith)
-
--- trailing zeros of the inverted word
-pub trailing-free : (n w : ℕ) → w < 2 ^ n → trailingZeros n (2 ^ n - 1 - w) ≡ firstFree (bitsOf n w)
-unfolding trailingZeros bitsOf firstFree
-trailing-free zero w h = refl
-trailing-free (suc n) w h =
-    let p : 2 ^ suc n ≡ 2 ^ n * 2 = pow-suc 2 n in
-    let low : (2 ^ suc n - 1 - w) % 2 ≡ 1 - w % 2 = omega (arith, p) in
-    let half : (2 ^ suc n - 1 - w) / 2 ≡ 2 ^ n - 1 - w / 2 = omega (arith, p) in
-    rw (low, half, trailing-free n (w / 2) (omega (arith, p))) (under-next (w % 2) (firstFree (bitsOf n (w / 2))) (low-le w))
+use Rattle.unit.specs.Laws.Marks.{length-bits}
 
 append-step : (o f l m g : ℕ) → g ≡ cond (ltb f l) f (l + m) → orNext o g ≡ cond (ltb (orNext o f) (suc l)) (orNext o f) (suc l + m)
 unfolding orNext

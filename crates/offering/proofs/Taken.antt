@@ -13,12 +13,11 @@ use Rattle.door.specs.Record.{firstThat, recordAt}
 use Rattle.door.specs.Offer.{offeredAt}
 use Rattle.door.specs.Laws.Choice.{first-passes}
 use Rattle.opening.specs.Laws.Taken.{taken-there, taken-none}
-use Rattle.offering.specs.Steps.{isOfListed}
 
 -- which record is taken
 module _ (resume : Bool) (list : List ℕ) (held : List SessionRecord) where
-  pub offered-first : resume ≡ true → firstThat (isOfListed list) held ≡ offeredAt resume list held
-  unfolding offeredAt isOfListed
+  pub offered-first : resume ≡ true → firstThat (λ r. isListed (r .tep) list) held ≡ offeredAt resume list held
+  unfolding offeredAt
   offered-first e = rw e
 
   pub offered-none : resume ≡ false → length held ≡ offeredAt resume list held

@@ -5,17 +5,12 @@ use mathlib.Core.Bool.{Bool}
 use lib.Dec.{ltb}
 use lib.ListN.{length}
 use Rattle.wire.specs.Bytes.{pasted}
-use Rattle.eno.specs.Option.{isListed, offered, optionWith}
-use Rattle.eno.specs.declared.SessionRecord.{SessionRecord}
+use Rattle.eno.specs.Option.{offered, optionWith}
 use Rattle.door.specs.Door.{Seen}
 use Rattle.door.specs.Record.{recordAt}
 use Rattle.door.specs.Outcome.{Outcome, written, refusal, unless}
 use Rattle.door.specs.Offer.{offeredDoor}
 use Rattle.opening.specs.Steps.{taking}
-
--- a record of a listed TEP
-unfoldable pub isOfListed : List ℕ → SessionRecord → Bool
-isOfListed list r = isListed (r .tep) list
 
 -- an offer whose arguments fit: the j-th oldest record is taken, if there is one
 unfoldable pub proposed : Seen → (b : ℕ) (aware mandatory : Bool) (list : List ℕ) (j : ℕ) (nonce s : List ℕ) → Outcome

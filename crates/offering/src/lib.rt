@@ -3,6 +3,7 @@ use door::Door;
 use door::Refusal;
 use door::Reply;
 use door::View;
+use door_search::Sought;
 use eno::Cause;
 use eno::InHand;
 use opening::Opening;
@@ -14,35 +15,19 @@ ghost use Prim.Native.Nat.{_≤_};
 ghost use lib.ListN.{length};
 ghost use Rattle.eno.specs.Option.{offerFits};
 ghost use Rattle.door.specs.Door.{seenOf, noSession};
-ghost use Rattle.door.specs.Record.{firstThat, recordAt};
+ghost use Rattle.door.specs.Record.{recordAt};
 ghost use Rattle.door.specs.Offer.{offeredAt, offer, doorOffered};
 ghost use Rattle.door.specs.Answers.{replyOf, effectOf, outcomeAs};
-ghost use Rattle.offering.specs.Steps.{isOfListed, proposed};
-
-// The oldest record whose TEP is listed; the number of records where there is none.
-fn first_listed(view: View, teps: &[u8]) -> usize
-    ensures { λ r. ⌜ r ≡ firstThat (isOfListed (now (teps .entry))) (seenOf view .held) ⌝ }
-{
-    let n = door::held_count(view);
-    let mut i = 0;
-    while i < n {
-        let session = view.held[i];
-        if option_arguments::is_listed(session.tep, teps) {
-            return i;
-        }
-        i += 1;
-    }
-    n
-}
+ghost use Rattle.offering.specs.Steps.{proposed};
 
 // The record that an offer takes; the number of records where it takes none.
 fn offered_at(view: View, resume: bool, teps: &[u8]) -> usize
     ensures { λ r. ⌜ r ≡ offeredAt resume (now (teps .entry)) (seenOf view .held) ⌝ }
 {
     if resume {
-        return first_listed(view, teps);
+        return door_search::first_sought(view, Sought::Listed, teps);
     }
-    door::held_count(view)
+    door_counts::held_count(view)
 }
 
 fn offered_door(own: &[u8], mandatory: bool, hand: InHand) -> Door
@@ -85,7 +70,7 @@ fn propose(
     requires { ⌜ offerFits b (now teps) (recordAt (seenOf view .held) j) (now nonce) ≡ true ⌝ }
     ensures { λ r. ⌜ outcomeAs (replyOf (r .reply) []) (now (out .exit)) (r .door) (effectOf (r .change) noSession) ≡ proposed (seenOf view) b aware mandatory (now (teps .entry)) j (now (nonce .entry)) (now (out .entry)) ⌝ }
 {
-    let n = door::held_count(view);
+    let n = door_counts::held_count(view);
     let hand = opening::hand_at(view, j);
     let said = option_writer::write_offer(b, aware, teps, hand, nonce, out);
     match said {

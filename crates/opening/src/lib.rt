@@ -51,7 +51,7 @@ pub fn terms_fit(aware: bool, mandatory: bool, teps: &[u8], nonce: &[u8]) -> boo
 pub fn hand_at(view: View, j: usize) -> InHand
     ensures { λ r. ⌜ r ≡ handOf (recordAt (seenOf view .held) j) ⌝ }
 {
-    let n = door::held_count(view);
+    let n = door_counts::held_count(view);
     if j < n {
         let session = view.held[j];
         return InHand {
@@ -59,7 +59,7 @@ pub fn hand_at(view: View, j: usize) -> InHand
             session,
         };
     }
-    door::empty_hand()
+    door_values::empty_hand()
 }
 
 // A record that is taken leaves the pool.

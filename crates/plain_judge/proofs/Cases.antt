@@ -24,7 +24,7 @@ use Rattle.suboption_list.specs.List.{itemsIn, listOf}
 use Rattle.suboption_list.specs.Laws.{list-says}
 use Rattle.suboption_list.specs.declared.SuboptionList.{SuboptionList}
 use Rattle.plain_validity.specs.Validity.{validityIn, validity-of}
-use Rattle.plain_judge.specs.Striking.{struck, lastOf, taken, judge-by-striking}
+use Rattle.plain_striking.specs.Striking.{struck, lastOf, taken, judge-by-striking}
 use Rattle.plain_judge.specs.Plain.{concluded, negotiatedIn}
 use Rattle.plain_judge.proofs.Concluding.{says-agreed}
 

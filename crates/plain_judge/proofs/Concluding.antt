@@ -20,7 +20,7 @@ use Rattle.suboption_list.specs.List.{sentOf, itemsIn, listOf}
 use Rattle.suboption_list.specs.declared.SuboptionItem.{SuboptionItem}
 use Rattle.plain_validity.specs.Validity.{wayAs, validityIn}
 use Rattle.plain_validity.specs.declared.Validity.{Validity}
-use Rattle.plain_judge.specs.Striking.{struck, lastOf, taken}
+use Rattle.plain_striking.specs.Striking.{struck, lastOf, taken}
 use Rattle.plain_judge.specs.Plain.{encryptedAs, concluded, negotiatedIn}
 
 module _ (a b : List ℕ) (role : ℕ) where

@@ -1,4 +1,4 @@
 -- Laws that the proofs share.
-pub mod Struck
 pub mod Concluding
+pub mod Left
 pub mod Cases

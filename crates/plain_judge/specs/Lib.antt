@@ -1,3 +1,2 @@
--- The judgement by striking the suboptions that are not valid and taking the last.
-pub mod Striking
+-- How the plain judge comes to its judgement.
 pub mod Plain

@@ -1,13 +1,12 @@
 -- How the plain judge comes to its judgement of two options.
-use Prim.Native.Nat.{ℕ, _+_, _%_}
+use Prim.Native.Nat.{ℕ, _+_}
 use mathlib.Core.List.{List, _++_}
-use mathlib.Core.Bool.{Bool, _&&_}
+use mathlib.Core.Bool.{Bool}
 use mathlib.Core.Option.{Option, none, some}
 use lib.Dec.{eqb}
 use lib.ListN.{length}
-use Rattle.eno.specs.Walk.{listed}
 use Rattle.eno.specs.Suboption.{Sent, teps}
-use Rattle.eno.specs.Judge.{Way, isResumed, ofA, ofB, Negotiated}
+use Rattle.eno.specs.Judge.{isResumed, ofA, ofB, Negotiated}
 use Rattle.eno.specs.declared.SessionRecord.{SessionRecord}
 use Rattle.judgement.specs.Answers.{padded, withoutTranscript}
 use Rattle.judgement.specs.Laws.Found.{sidesOf}
@@ -15,13 +14,8 @@ use Rattle.judgement.specs.declared.Reason.the-variants as reason
 use Rattle.judgement.specs.declared.Verdict.the-variants as verdict
 use Rattle.judgement.specs.declared.Judgement.{Judgement}
 use Rattle.suboption_list.specs.List.{itemsIn, listOf}
-use Rattle.suboption_list.specs.declared.SuboptionItem.{SuboptionItem}
 use Rattle.plain_validity.specs.Validity.{validityIn}
-use Rattle.plain_judge.specs.Striking.{isValid, struck, lastOf, taken}
-
--- a suboption that is not struck: a TEP that is valid
-unfoldable pub stays : (ℕ → Option Way) → SuboptionItem → Bool
-stays valid x = x .«is_tep» && isValid (valid (x .byte % 128))
+use Rattle.plain_striking.specs.Striking.{struck, lastOf, taken}
 
 unfoldable pub encryptedAs : (a b : List ℕ) → (role byte : ℕ) → Bool → Judgement
 encryptedAs a b role byte again = record { verdict = verdict.Encrypted role byte again; length = length a + length b; transcript = padded (a ++ b) }

@@ -7,81 +7,15 @@ use plain_validity::Validity;
 use suboption_list::SuboptionItem;
 use suboption_list::SuboptionList;
 ghost use mathlib.Core.Path.{_≡_};
-ghost use mathlib.Core.List.{map};
 ghost use Prim.Native.Nat.{_≤_};
 ghost use lib.ListN.{length};
-ghost use Rattle.eno.specs.Suboption.{tep, teps};
+ghost use Rattle.eno.specs.Suboption.{teps};
 ghost use Rattle.eno.specs.Session.{inHand};
 ghost use Rattle.eno.specs.Judge.{negotiatedBy, judge};
 ghost use Rattle.judgement.specs.Answers.{Judges};
-ghost use Rattle.judgement.specs.Laws.Found.{sidesOf};
-ghost use Rattle.suboption_list.specs.List.{sentOf, itemsIn, listWith};
-ghost use Rattle.plain_validity.specs.Validity.{wayAs, validityIn};
-ghost use Rattle.plain_judge.specs.Striking.{struck};
-ghost use Rattle.plain_judge.specs.Plain.{stays, encryptedAs, concluded, negotiatedIn};
-
-// Whether a suboption stays: it is a TEP, and valid.
-fn is_valid<'a>(
-    x: SuboptionItem,
-    own: &'a [u8],
-    peer: &'a [u8],
-    hand: InHand,
-    own_is_b: bool,
-    ours: SuboptionList,
-    others: SuboptionList,
-) -> bool
-    ensures { λ r. ⌜ r ≡ stays (validityIn (sidesOf (inHand hand) (now (own .entry)) (now (peer .entry)) «own_is_b») (teps (itemsIn ours)) (teps (itemsIn others))) x ⌝ }
-{
-    if !x.is_tep {
-        return false;
-    }
-    let t = x.byte % 128;
-    let v = plain_validity::way_of(own, peer, hand, own_is_b, ours, others, t);
-    match v {
-        Validity::Invalid => false,
-        Validity::Fresh => true,
-        Validity::Resumed => true,
-    }
-}
-
-// A list without the suboptions that are not valid.
-fn strike<'a>(
-    list: SuboptionList,
-    own: &'a [u8],
-    peer: &'a [u8],
-    hand: InHand,
-    own_is_b: bool,
-    ours: SuboptionList,
-    others: SuboptionList,
-) -> SuboptionList
-    ensures { λ r. ⌜ (r ≡ listWith (map tep (struck (validityIn (sidesOf (inHand hand) (now (own .entry)) (now (peer .entry)) «own_is_b») (teps (itemsIn ours)) (teps (itemsIn others))) (teps (itemsIn list))))) × (r .count ≤ 38) ⌝ }
-{
-    let none = suboption_list::global_item(0);
-    let mut items = [none; 38];
-    let mut count: usize = 0;
-    let mut i = 0;
-    while i < 38 {
-        if list.count <= i {
-            return SuboptionList {
-                ill_formed: false,
-                count,
-                items,
-            };
-        }
-        let x = list.items[i];
-        let next = i + 1;
-        if is_valid(x, own, peer, hand, own_is_b, ours, others) {
-            items[count] = x;
-            count += 1;
-        }
-        i = next;
-    }
-    SuboptionList {
-        ill_formed: false,
-        count,
-        items,
-    }
-}
+ghost use Rattle.suboption_list.specs.List.{sentOf, itemsIn};
+ghost use Rattle.plain_validity.specs.Validity.{wayAs};
+ghost use Rattle.plain_judge.specs.Plain.{encryptedAs, concluded, negotiatedIn};
 
 // The transcript is A's option followed by B's.
 fn encrypted<'a>(a: &'a [u8], b: &'a [u8], role: u8, tep: u8, resumed: bool) -> Judgement
@@ -127,12 +61,12 @@ fn negotiate<'a>(
     let own_is_b = role == 1;
     let a = judgement::host_a_option(own, peer, own_is_b);
     let b = judgement::host_b_option(own, peer, own_is_b);
-    let all = suboption_list::list(b);
-    let left = strike(all, own, peer, hand, own_is_b, ours, others);
+    let all = suboption_lister::list(b);
+    let left = plain_striking::strike(all, own, peer, hand, own_is_b, ours, others);
     if left.count == 0 {
         return judgement::without_transcript(Verdict::Plain(Reason::NoValidTep));
     }
-    let last = suboption_list::last_item(left);
+    let last = suboption_last::last_item(left);
     let t = last.byte % 128;
     let v = plain_validity::way_of(own, peer, hand, own_is_b, ours, others, t);
     conclude(a, b, role, last, v)
@@ -155,16 +89,16 @@ pub fn judge_plainly<'a>(
     if peer.len() == 0 {
         return judge_missed::not_found(own_area, own, peer_area, peer);
     }
-    let ours = suboption_list::list(own);
-    let others = suboption_list::list(peer);
+    let ours = suboption_lister::list(own);
+    let others = suboption_lister::list(peer);
     if ours.ill_formed {
         return judgement::without_transcript(Verdict::Plain(Reason::IllFormed));
     }
     if others.ill_formed {
         return judgement::without_transcript(Verdict::Plain(Reason::IllFormed));
     }
-    let our_global = suboption_list::first_global(ours);
-    let other_global = suboption_list::first_global(others);
+    let our_global = suboption_global::first_global(ours);
+    let other_global = suboption_global::first_global(others);
     let role = our_global % 2;
     if role == other_global % 2 {
         return judgement::without_transcript(Verdict::Plain(Reason::EqualRoles));

@@ -44,7 +44,7 @@ pub fn second_reason(door: Door, area: &[u8]) -> Cause
         return absent;
     }
     let option = finder::find_option(area, true);
-    let summary = suboptions::summarize(option);
+    let summary = suboption_summary::summarize(option);
     if summary.ill_formed {
         return Cause {
             reason: 3,

@@ -1,4 +1,4 @@
 -- Laws that the proofs share.
-pub mod Data
+pub mod Sides
 pub mod Halves
 pub mod Cases

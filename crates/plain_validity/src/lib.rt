@@ -122,14 +122,14 @@ pub fn way_of<'a>(
     if !tep.known {
         return Validity::Invalid;
     }
-    if suboption_list::times(ours, t) != 1 {
+    if suboption_named::times(ours, t) != 1 {
         return Validity::Invalid;
     }
-    if suboption_list::times(others, t) != 1 {
+    if suboption_named::times(others, t) != 1 {
         return Validity::Invalid;
     }
-    let mine = suboption_list::first_named(ours, t);
-    let theirs = suboption_list::first_named(others, t);
+    let mine = suboption_named::first_named(ours, t);
+    let theirs = suboption_named::first_named(others, t);
     // neither is bad,
     if is_bad(mine) {
         return Validity::Invalid;

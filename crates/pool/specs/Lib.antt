@@ -2,6 +2,7 @@
 pub mod Carried
 pub mod Placed
 pub mod PlacedLaws
+pub mod Gathering
 pub mod Carrying
 pub mod Enacting
 pub mod EveryByte

@@ -1,12 +1,10 @@
-// Tests on session records: whether bytes are a record's parts, and whether a door holds a record or has it in hand.
-use door::View;
+// Tests on session records: whether bytes are a record's parts, and whether a record has a name or a door has it in hand.
 use eno::InHand;
 use eno::SessionRecord;
 use eno::Tep;
 ghost use mathlib.Core.Path.{_≡_};
 ghost use Rattle.eno.specs.Session.{inHand};
-ghost use Rattle.door.specs.Record.{firstThat, isSession};
-ghost use Rattle.door.specs.Door.{seenOf};
+ghost use Rattle.door.specs.Record.{isSession};
 ghost use Rattle.door.specs.Records.{isInHand, isRecord};
 ghost use Rattle.record_tests.specs.Steps.{isNamed};
 
@@ -19,22 +17,6 @@ pub fn is_session(session: SessionRecord, tep: u8, identifier: &[u8]) -> bool
     }
     let other = session.identifier;
     wire::same(&other, identifier)
-}
-
-// Which of the records held, oldest first, has this TEP and this identifier; how many are held where none has.
-pub fn first_session(view: View, tep: u8, identifier: &[u8]) -> usize
-    ensures { λ r. ⌜ r ≡ firstThat (isSession tep (now (identifier .entry))) (seenOf view .held) ⌝ }
-{
-    let n = door::held_count(view);
-    let mut i = 0;
-    while i < n {
-        let session = view.held[i];
-        if is_session(session, tep, identifier) {
-            return i;
-        }
-        i += 1;
-    }
-    n
 }
 
 // Whether the record in hand, if there is one, has this TEP and this identifier.

@@ -1,3 +1,2 @@
 -- Laws of a door's list of rows.
-pub mod ClosingUp
 pub mod Listings

@@ -13,7 +13,7 @@ fn open_hand(resumed: bool, hand: InHand) -> InHand
     if resumed {
         return hand;
     }
-    door::empty_hand()
+    door_values::empty_hand()
 }
 
 // The door opened with the verdict that it stores.

@@ -52,7 +52,7 @@ pub fn after_judging(door: Door, opens: bool, area: &[u8]) -> Door
         Verdict::Refused => door,
         Verdict::Plain(reason) => {
             let cause = judgement::cause_of(reason);
-            door::plain_door(cause)
+            door_values::plain_door(cause)
         }
         Verdict::Encrypted { role, tep, resumed } => {
             let option = finder::find_option(area, true);

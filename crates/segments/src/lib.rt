@@ -24,7 +24,7 @@ fn after_comparing(door: Door, opens: bool, area: &[u8]) -> Door
     if cause.reason == 0 {
         return segment_doors::open_if(opens, door);
     }
-    door::plain_door(cause)
+    door_values::plain_door(cause)
 }
 
 // A segment without SYN shows that the option arrived, by having one.
@@ -35,7 +35,7 @@ fn after_presence(door: Door, area: &[u8]) -> Door
     if cause.reason == 0 {
         return segment_doors::open_door(door);
     }
-    door::plain_door(cause)
+    door_values::plain_door(cause)
 }
 
 fn told(door: Door) -> Received

@@ -1,3 +1,4 @@
--- What stands at a place of an option, and where its data ends.
+-- What stands at a place of an option, where its data ends, and what its data makes of it.
 pub mod Piece
 pub mod Within
+pub mod Data

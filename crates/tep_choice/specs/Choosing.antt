@@ -5,15 +5,14 @@ use mathlib.Core.Bool.{Bool, cond, not, _&&_}
 use mathlib.Core.Option.{Option, none, some}
 use lib.Dec.{ltb, eqb}
 use lib.ListN.{length, getD}
-use Rattle.wire.specs.Bytes.{part, sameBytes}
 use Rattle.eno.specs.Cause.{numbered}
 use Rattle.eno.specs.Tep.{isKnown}
-use Rattle.eno.specs.Session.{expectedHalf}
 use Rattle.eno.specs.Judge.{isFresh, isBad}
 use Rattle.eno.specs.declared.SessionRecord.{SessionRecord}
 use Rattle.suboptions.specs.Summary.{never, asSent}
 use Rattle.suboptions.specs.declared.Entry.{Entry}
 use Rattle.door.specs.Record.{firstThat}
+use Rattle.door_search.specs.Search.{expects}
 use Rattle.door.specs.Answer.{lastThat, Choice, Answering, plainFor, with}
 use Rattle.tep_choice.specs.declared.Decision.{Decision}
 use Rattle.tep_choice.specs.declared.Decision.the-variants as decision
@@ -34,10 +33,6 @@ entryOf es t = cond (isKnown t) (getD es (t - 0x21) never) never
 -- sent once and not bad
 unfoldable pub candidateBy : Entry → Bool
 candidateBy e = eqb (e .times) 1 && not (isBad (asSent e))
-
--- a record of the TEP t expects the half that stands in the option o at a place
-unfoldable pub expects : List ℕ → ℕ → ℕ → SessionRecord → Bool
-expects o t at r = eqb (r .tep) t && sameBytes (expectedHalf r) (part at 9 o)
 
 -- the oldest record that can be resumed with the TEP t; the number of records where there is none
 unfoldable pub fittingBy : List ℕ → ℕ → Entry → List SessionRecord → ℕ

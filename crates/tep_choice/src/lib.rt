@@ -1,12 +1,11 @@
 // The TEP that an answer chooses of a list in rising priority, and the record that is resumed with it. Total for every view and every argument.
 use door::View;
+use door_search::Sought;
 use eno::Cause;
-use eno::SessionRecord;
 use suboptions::Entry;
 ghost use mathlib.Core.Path.{_≡_};
 ghost use Rattle.door.specs.Door.{seenOf};
-ghost use Rattle.door.specs.Record.{firstThat};
-ghost use Rattle.tep_choice.specs.Choosing.{decisionOf, entryOf, candidateBy, expects, fittingBy, lastResumed, lastFresh, chosenBy};
+ghost use Rattle.tep_choice.specs.Choosing.{decisionOf, entryOf, candidateBy, fittingBy, lastResumed, lastFresh, chosenBy};
 
 // What an answer comes to: plain with its reason, or the TEP that is answered and which record is resumed.
 pub enum Decision {
@@ -41,58 +40,29 @@ fn is_candidate(e: Entry) -> bool
     if e.times != 1 {
         return false;
     }
-    !suboptions::is_bad(e)
-}
-
-// Whether a record is of the TEP t and expects the half that stands in an option at `at`.
-fn is_expecting(session: SessionRecord, t: u8, option: &[u8], at: usize) -> bool
-    ensures { λ r. ⌜ r ≡ expects (now (option .entry)) t at session ⌝ }
-{
-    if session.tep != t {
-        return false;
-    }
-    let identifier = session.identifier;
-    if session.role == 0 {
-        return wire::stands_at(option, at, &identifier[9..18]);
-    }
-    wire::stands_at(option, at, &identifier[0..9])
-}
-
-// The oldest record that expects that half; the number of records where none does.
-fn first_expecting(view: View, t: u8, option: &[u8], at: usize) -> usize
-    ensures { λ r. ⌜ r ≡ firstThat (expects (now (option .entry)) t at) (seenOf view .held) ⌝ }
-{
-    let n = door::held_count(view);
-    let mut i = 0;
-    while i < n {
-        let session = view.held[i];
-        if is_expecting(session, t, option, at) {
-            return i;
-        }
-        i += 1;
-    }
-    n
+    !suboption_data::is_bad(e)
 }
 
 // The oldest record that can be resumed with the TEP t, by what A sent of it; the number of records where there is none.
 fn fitting(view: View, option: &[u8], e: Entry, t: u8) -> usize
     ensures { λ r. ⌜ r ≡ fittingBy (now (option .entry)) t e (seenOf view .held) ⌝ }
 {
-    let n = door::held_count(view);
+    let n = door_counts::held_count(view);
     if !is_candidate(e) {
         return n;
     }
-    if suboptions::is_fresh(e) {
+    if suboption_data::is_fresh(e) {
         return n;
     }
-    first_expecting(view, t, option, e.start as usize)
+    let at = e.start as usize;
+    door_search::first_sought(view, Sought::Expecting { tep: t, at }, option)
 }
 
 // The last listed TEP that can be resumed.
 fn last_resumed(view: View, option: &[u8], entries: [Entry; 4], teps: &[u8]) -> Decision
     ensures { λ r. ⌜ decisionOf r ≡ lastResumed (now (option .entry)) entries (now (teps .entry)) (seenOf view .held) ⌝ }
 {
-    let n = door::held_count(view);
+    let n = door_counts::held_count(view);
     let mut i = teps.len();
     while 0 < i {
         i -= 1;
@@ -115,7 +85,7 @@ fn last_resumed(view: View, option: &[u8], entries: [Entry; 4], teps: &[u8]) -> 
 fn last_fresh(view: View, entries: [Entry; 4], teps: &[u8]) -> Decision
     ensures { λ r. ⌜ decisionOf r ≡ lastFresh entries (now (teps .entry)) (seenOf view .held) ⌝ }
 {
-    let n = door::held_count(view);
+    let n = door_counts::held_count(view);
     let mut i = teps.len();
     while 0 < i {
         i -= 1;

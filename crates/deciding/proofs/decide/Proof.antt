@@ -1,5 +1,4 @@
 -- `deciding::decide` meets its contract.
-use mathlib.Core.Path.{_≡_, refl, sym, _∙_, ap}
 use native.Mathlib.Omega.{arith}
 use Rattle.deciding.proofs.Tests.{decided-missed, decided-ill, decided-equal, decided-unaware, decided-chosen}
 use borrow.Author.Needs.{needs}

@@ -52,10 +52,10 @@ use Rattle.generation.proofs.GenerationReply.Laws as R′
 use Rattle.generation.proofs.GenerationStep as O
 use Rattle.generation.proofs.GenerationStep.Laws as O′
 use Rattle.generation_lent.proofs.Lent.{valG, valR, isG, isR, typedG, typedR}
-use Rattle.generation.proofs.initiate as step
-use Rattle.generation.proofs.initiate.Symbol as step-def
-use Rattle.generation.proofs.initiate.Symbol.{name as #generation·initiate}
-use Rattle.generation.proofs.initiate.Met as step-thm
+use Rattle.generation_initiate.proofs.initiate as step
+use Rattle.generation_initiate.proofs.initiate.Symbol as step-def
+use Rattle.generation_initiate.proofs.initiate.Symbol.{name as #generation_initiate·initiate}
+use Rattle.generation_initiate.proofs.initiate.Met as step-thm
 use Rattle.generation_lent.proofs.initiate_rekey.Key.{name as #generation_lent·initiate-rekey}
 use Rattle.generation_lent.proofs.initiate_rekey as f
 use Rattle.generation_lent.proofs.initiate_rekey.Statement as stated
@@ -102,7 +102,7 @@ module _ {M : Type 1} (𝓤 : URA M) (H : Heap 𝓤) (A : Atoms 𝓤) (W : Given
       qed W (‵ (G.the-row .own h (valG h ∷ [])) ∷ (‵ (bool .own t (vbool t ∷ [])) ⊛ ‵ (bool .own u (vbool u ∷ []))) ∷ []) ∵
       move ! (1 ∷ []) $ split ! $ nothing ! $ move ! (2 ∷ 0 ∷ []) $ join ! $ move ! (1 ∷ 0 ∷ []) $ join ! $ move ! (1 ∷ 0 ∷ []) $ join ! $ nothing ! $ join ! $ frame ! $ done !
 
-  module _ (C : Calls 𝓤 H) (Λ : Loops 𝓤 H) (fm : FmC 𝓤 H (W .laws) C) (known-step : Triple 𝓤 (C #generation·initiate) (Step 𝓤 H A at-mem run)) where
+  module _ (C : Calls 𝓤 H) (Λ : Loops 𝓤 H) (fm : FmC 𝓤 H (W .laws) C) (known-step : Triple 𝓤 (C #generation_initiate·initiate) (Step 𝓤 H A at-mem run)) where
     walk : ent 𝓤 (onEntry 𝓤 H A f.signature (κ, tt) (q, tt) x at) (WpFn 𝓤 H C Λ code.function (vptr b o ∷ vbool t ∷ vbool u ∷ []) Post)
     walk =
         qed W ((‵ (flft κ q) ⊛ ‵ ftrue) ∷ ‵ (owns (MutRef (named 0) κ G.the-row ∷ bool ∷ bool ∷ []) x at) ∷ []) ∵ split ! $ move ! (2 ∷ []) $ fsplit ! $ fsplit3 ! $ drop ! $ move ! (0 ∷ 1 ∷ 3 ∷ []) $
@@ -134,7 +134,7 @@ module _ {M : Type 1} (𝓤 : URA M) (H : Heap 𝓤) (A : Atoms 𝓤) (W : Given
         keep ! (0 ∷ 1 ∷ 2 ∷ []) $ by ! (exits r e (isR r v is)))))))))))))))
 
 module _ {M : Type 1} (𝓤 : URA M) (H : Heap 𝓤) (A : Atoms 𝓤) (W : Given 𝓤 H A) (at-mem : Memory → SProp 𝓤) (run : Routine → Fun 𝓤) where
-  walks : (C : Calls 𝓤 H) (Λ : Loops 𝓤 H) → FmC 𝓤 H (W .laws) C → Triple 𝓤 (C #generation·initiate) (Step 𝓤 H A at-mem run)
+  walks : (C : Calls 𝓤 H) (Λ : Loops 𝓤 H) → FmC 𝓤 H (W .laws) C → Triple 𝓤 (C #generation_initiate·initiate) (Step 𝓤 H A at-mem run)
       → Walks 𝓤 H A f.ended stayed (WpFn 𝓤 H C Λ code.function) (f.clauses 𝓤 H A at-mem run)
   walks C Λ fm known-step =
       walked 𝓤 H A f.ended stayed (f.clauses 𝓤 H A at-mem run) (WpFn 𝓤 H C Λ code.function) (λ κs. (ptr-vals, (bool-vals, (bool-vals, tt)))) (λ κs. (mut-tells (named 0) (κs .0) G.the-row, (bool-tells, (bool-tells, tt))))
@@ -144,7 +144,7 @@ module _ {M : Type 1} (𝓤 : URA M) (H : Heap 𝓤) (A : Atoms 𝓤) (W : Given
   goes = (goes-ref 𝓤 H A W 1 0 tt (plain (λ _. G.the-row)), (goes-none 𝓤 H A W 1 (λ _. bool) yes (λ κs x f. refl), (goes-none 𝓤 H A W 1 (λ _. bool) yes (λ κs x f. refl), tt)))
 
 meets : {M : Type 1} (𝓤 : URA M) (H : Heap 𝓤) (A : Atoms 𝓤) (W : Given 𝓤 H A) (at-mem : Memory → SProp 𝓤) (run : Routine → Fun 𝓤) (𝓣 : Tables 𝓤 H)
-    → Triple 𝓤 (𝓣 .C #generation·initiate) (Step 𝓤 H A at-mem run)
+    → Triple 𝓤 (𝓣 .C #generation_initiate·initiate) (Step 𝓤 H A at-mem run)
     → Meets 𝓤 H A f.signature (WpFn 𝓤 H (𝓣 .C) (𝓣 .Λ) code.function) (f.spec 𝓤 H A at-mem run)
 meets 𝓤 H A W at-mem run 𝓣 known-step =
     walk-meets 𝓤 H A f.ended stayed W (goes 𝓤 H A W at-mem run) (f.clauses 𝓤 H A at-mem run) (WpFn 𝓤 H (𝓣 .C) (𝓣 .Λ) code.function) (WpFn-mono 𝓤 H (W .laws) 𝓣 code.function)
@@ -156,4 +156,4 @@ initiate-rekey-spec 𝓤 H 𝓜 𝓖 𝓡 =
     entered 𝓤 H (tripleOf 𝓤 H (𝓖 .A) f.signature (f.spec 𝓤 H (𝓖 .A) (𝓜 .mem) (𝓡 .run)))
     (tables 𝓤 H 𝓜 𝓡 code.env .C) (tables 𝓤 H 𝓜 𝓡 code.env .Λ) #generation_lent·initiate-rekey code.function (code.unfolded 𝓤 H 𝓜 𝓡)
     (meets 𝓤 H (𝓖 .A) (givenOf 𝓤 H 𝓜 𝓖) (𝓜 .mem) (𝓡 .run) (tablesOf 𝓤 H 𝓜 (tables 𝓤 H 𝓜 𝓡 code.env))
-    (cited 𝓤 H (Step 𝓤 H (𝓖 .A) (𝓜 .mem) (𝓡 .run)) 𝓜 𝓡 code.env #generation·initiate step-def.routine code.calls-generation·initiate (step-thm.met 𝓤 H 𝓜 𝓖 𝓡)))
+    (cited 𝓤 H (Step 𝓤 H (𝓖 .A) (𝓜 .mem) (𝓡 .run)) 𝓜 𝓡 code.env #generation_initiate·initiate step-def.routine code.calls-generation-initiate·initiate (step-thm.met 𝓤 H 𝓜 𝓖 𝓡)))

@@ -1,5 +1,5 @@
 -- `generation_calls::door_link_receive_frame` meets its contract.
-use Rattle.host_generation.specs.Replies.{generationNumbers}
+use Rattle.host_generation_numbers.specs.Replies.{generationNumbers}
 use Rattle.host_reply.specs.Telling.{wrapped}
 use borrow.Author.Needs.{needs}
 use Rattle.host_generation.proofs.door_link_receive_frame.Statement.{statement}

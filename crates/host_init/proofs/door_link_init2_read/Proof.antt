@@ -1,5 +1,5 @@
 -- `init_calls::door_link_init2_read` meets its contract.
-use Rattle.host_init.specs.Replies.{initNumbers}
+use Rattle.host_init_numbers.specs.Replies.{initNumbers}
 use Rattle.host_reply.specs.Telling.{wrapped}
 use borrow.Author.Needs.{needs}
 use Rattle.host_init.proofs.door_link_init2_read.Statement.{statement}

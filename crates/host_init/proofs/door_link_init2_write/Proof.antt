@@ -1,5 +1,5 @@
 -- `init_calls::door_link_init2_write` meets its contract.
-use Rattle.host_init.proofs.Giving.{gives-init}
+use Rattle.host_init_numbers.proofs.Giving.{gives-init}
 use borrow.Author.Needs.{needs}
 use Rattle.host_init.proofs.door_link_init2_write.Statement.{statement}
 use Rattle.host_init.proofs.door_link_init2_write.Tie as tie

@@ -1,5 +1,5 @@
 -- `judge_call::door_link_judge` meets its contract.
-use Rattle.host_judge.proofs.Judging.{judged}
+use Rattle.host_judge_numbers.proofs.Judging.{judged}
 use borrow.Author.Needs.{needs}
 use Rattle.host_judge.proofs.door_link_judge.Statement.{statement}
 use Rattle.host_judge.proofs.door_link_judge.Tie as tie

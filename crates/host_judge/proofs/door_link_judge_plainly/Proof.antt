@@ -1,5 +1,5 @@
 -- `door_link_judge_plainly` meets its contract.
-use Rattle.host_judge.proofs.Judging.{judged}
+use Rattle.host_judge_numbers.proofs.Judging.{judged}
 use borrow.Author.Needs.{needs}
 use Rattle.host_judge.proofs.door_link_judge_plainly.Statement.{statement}
 use Rattle.host_judge.proofs.door_link_judge_plainly.Tie as tie

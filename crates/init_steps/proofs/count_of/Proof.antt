@@ -2,7 +2,7 @@
 use mathlib.Core.Path.{sym, _∙_}
 use native.Mathlib.Omega.{arith}
 use lib.ListN.{List·getD-eq-default}
-use Rattle.init_steps.proofs.Ciphers.{getD-any}
+use Rattle.init_steps.proofs.Counting.{getD-any}
 use borrow.Author.Needs.{needs}
 use Rattle.init_steps.proofs.count_of.Statement.{statement}
 use Rattle.init_steps.proofs.count_of.Tie as tie

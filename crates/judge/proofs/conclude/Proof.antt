@@ -1,6 +1,5 @@
 -- `conclude` meets its contract.
-use mathlib.Core.Path.{_≡_, refl, sym, _∙_, ap}
-use native.Mathlib.Omega.{arith}
+use mathlib.Core.Path.{_∙_}
 use borrow.Author.Tests.{not-true, not-false}
 use Rattle.judge_quick.specs.Laws.Concluding.{conclude-none, conclude-some}
 use borrow.Author.Needs.{needs}

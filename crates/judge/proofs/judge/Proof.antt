@@ -1,5 +1,4 @@
 -- `judge` meets its contract.
-use mathlib.Core.Path.{_≡_, refl, sym, _∙_, ap}
 use native.Mathlib.Omega.{arith}
 use Rattle.eno.specs.Laws.Found.{found-short}
 use Rattle.judge_missed.specs.Laws.{judge-missed-own, judge-missed-peer}

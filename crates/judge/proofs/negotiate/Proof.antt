@@ -1,5 +1,5 @@
 -- `negotiate` meets its contract.
-use mathlib.Core.Path.{_≡_, refl, sym, _∙_, ap}
+use mathlib.Core.Path.{_∙_}
 use Rattle.judgement.specs.Laws.Found.{short-a, short-b}
 use Rattle.judge_quick.specs.Laws.Cases.{negotiated-by}
 use borrow.Author.Needs.{needs}

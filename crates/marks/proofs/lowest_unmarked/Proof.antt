@@ -12,7 +12,7 @@ use Rattle.marks.proofs.lowest_unmarked.Statement.{statement}
 use Rattle.marks.proofs.lowest_unmarked.Tie as tie
 use Rattle.marks.proofs.lowest_unmarked.Reads as reads
 use Rattle.marks.proofs.lowest_unmarked.Lts as lts
-use Rattle.marks.proofs.trailing_marked.Reads as trailing-marked-reads
+use Rattle.marks_word.proofs.trailing_marked.Reads as trailing-marked-reads
 use Rattle.marks.proofs.wide.Reads as wide-reads
 
 abbrev Inv-loop : tie.InvT-loop

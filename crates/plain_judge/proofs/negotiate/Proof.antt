@@ -2,7 +2,7 @@
 use mathlib.Core.Path.{_∙_}
 use native.Mathlib.Omega.{arith}
 use Rattle.judgement.specs.Laws.Found.{short-a, short-b}
-use Rattle.plain_judge.proofs.Struck.{last-is, none-left, struck-of}
+use Rattle.plain_judge.proofs.Left.{last-is, none-left, struck-of}
 use Rattle.plain_judge.proofs.Concluding.{negotiated-none, negotiated-some}
 use borrow.Author.Needs.{needs}
 use Rattle.plain_judge.proofs.negotiate.Statement.{statement}

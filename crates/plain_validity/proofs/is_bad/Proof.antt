@@ -1,5 +1,5 @@
 -- `is_bad` meets its contract.
-use Rattle.plain_validity.proofs.Data.{bad-fresh, bad-long}
+use Rattle.suboption.specs.Data.{bad-fresh, bad-long}
 use borrow.Author.Needs.{needs}
 use Rattle.plain_validity.proofs.is_bad.Statement.{statement}
 use Rattle.plain_validity.proofs.is_bad.Tie as tie

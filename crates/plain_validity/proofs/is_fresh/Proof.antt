@@ -1,6 +1,6 @@
 -- `is_fresh` meets its contract.
 use native.Mathlib.Omega.{arith}
-use Rattle.plain_validity.proofs.Data.{fresh-bare, fresh-short}
+use Rattle.suboption.specs.Data.{fresh-bare, fresh-short}
 use Rattle.plain_validity.proofs.is_fresh.Statement.{statement}
 use Rattle.plain_validity.proofs.is_fresh.Tie as tie
 

@@ -1,5 +1,5 @@
 -- `is_resumption` meets its contract.
-use Rattle.plain_validity.proofs.Data.{resumption-fresh, resumption-long}
+use Rattle.suboption.specs.Data.{resumption-fresh, resumption-long}
 use borrow.Author.Needs.{needs}
 use Rattle.plain_validity.proofs.is_resumption.Statement.{statement}
 use Rattle.plain_validity.proofs.is_resumption.Tie as tie

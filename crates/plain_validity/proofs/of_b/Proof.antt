@@ -1,5 +1,5 @@
 -- `of_b` meets its contract.
-use Rattle.plain_validity.proofs.Data.{b-own, b-peer}
+use Rattle.plain_validity.proofs.Sides.{b-own, b-peer}
 use Rattle.plain_validity.proofs.of_b.Statement.{statement}
 use Rattle.plain_validity.proofs.of_b.Tie as tie
 

@@ -6,7 +6,7 @@ use Rattle.row_list.proofs.count_of.Statement.{statement}
 use Rattle.row_list.proofs.count_of.Tie as tie
 use Rattle.row_list.proofs.count_of.Reads as reads
 use Rattle.row_list.proofs.count_of.Lts as lts
-use Rattle.door.proofs.listed_count.Reads as listed-count-reads
+use Rattle.door_counts.proofs.listed_count.Reads as listed-count-reads
 
 listed-count-requires : tie.Need-listed-count-requires
 listed-count-requires c κs = search needs

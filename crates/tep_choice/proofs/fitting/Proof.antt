@@ -2,6 +2,7 @@
 use mathlib.Core.Path.{_≡_, refl, sym, _∙_, ap}
 use borrow.Author.Tests.{not-true, not-false}
 use Rattle.tep_choice.proofs.Entries.{fitting-not, fitting-fresh, fitting-first}
+use Rattle.door_search.specs.Laws.{first-expecting}
 use borrow.Author.Needs.{needs}
 use Rattle.tep_choice.proofs.fitting.Statement.{statement}
 use Rattle.tep_choice.proofs.fitting.Tie as tie
@@ -21,14 +22,14 @@ is-fresh-requires c κs = search needs
 returns-2 : tie.Need-returns-2
 returns-2 c = fitting-fresh _ _ _ _ _ (c .before .before .before .before .held-count .ensures .seen) _ (c .before .before .before .is-candidate .ensures) (not-false _ (c .before .before .if1 .left)) _ (c .before .is-fresh .ensures) (c .if2 .taken)
 
-cast-first-expecting : tie.Need-cast-first-expecting
-cast-first-expecting c = search needs
+cast-at : tie.Need-cast-at
+cast-at c = search needs
 
-first-expecting-requires : tie.Need-first-expecting-requires
-first-expecting-requires c κs = search needs
+first-sought-requires : tie.Need-first-sought-requires
+first-sought-requires c κs = search needs
 
 returns-3 : tie.Need-returns-3
-returns-3 c = c .first-expecting .ensures ∙ fitting-first _ _ _ _ _ (c .before .before .before .before .before .before .held-count .ensures .seen) _ (c .before .before .before .before .before .is-candidate .ensures) (not-false _ (c .before .before .before .before .if1 .left)) _ (c .before .before .before .is-fresh .ensures) (c .before .before .if2 .left)
+returns-3 c = c .first-sought .ensures ∙ first-expecting _ _ _ _ ∙ fitting-first _ _ _ _ _ (c .before .before .before .before .before .before .held-count .ensures .seen) _ (c .before .before .before .before .before .is-candidate .ensures) (not-false _ (c .before .before .before .before .if1 .left)) _ (c .before .before .before .is-fresh .ensures) (c .before .before .if2 .left)
 
 pub fitting-spec : {M : Type 1} → statement M
 fitting-spec =
@@ -39,6 +40,6 @@ fitting-spec =
     returns
     is-fresh-requires
     returns-2
-    cast-first-expecting
-    first-expecting-requires
+    cast-at
+    first-sought-requires
     returns-3)

@@ -22,7 +22,8 @@ use Rattle.suboptions.specs.Laws.{entry-of, entry-times, entry-once}
 use Rattle.suboptions.specs.declared.Entry.{Entry}
 use Rattle.door.specs.Record.{firstThat}
 use Rattle.door.specs.Answer.{candidate, isCandidate, fittingAt, lastThat, Choice, orFresh, chooseTep, Answering, plainFor, with, chosenOr}
-use Rattle.tep_choice.specs.Choosing.{chosen, entryOf, candidateBy, expects, fittingBy, resumableBy, isCandidateBy, resumedBy, lastResumed, freshBy, lastFresh, firstOr, chosenBy}
+use Rattle.door_search.specs.Search.{expects}
+use Rattle.tep_choice.specs.Choosing.{chosen, entryOf, candidateBy, fittingBy, resumableBy, isCandidateBy, resumedBy, lastResumed, freshBy, lastFresh, firstOr, chosenBy}
 use Rattle.tep_choice.specs.Laws.Entry.{entry-there}
 use Rattle.tep_choice.specs.Laws.Listing.{last-same, last-is}
 

@@ -1,0 +1,2 @@
+-- Laws of resend.
+pub mod Resending

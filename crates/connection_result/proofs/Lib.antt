@@ -1,0 +1,2 @@
+-- Laws of result.
+pub mod Outcomes

@@ -1,0 +1,3 @@
+-- Which records are looked for.
+pub mod Search
+pub mod Laws

@@ -1,0 +1,2 @@
+-- Laws of the values that are made.
+pub mod Making

@@ -1,2 +1,0 @@
--- Laws of generations that the proofs of the functions cite.
-pub mod Ways

@@ -1,0 +1,2 @@
+-- Laws that the proofs use.
+pub mod Ways

@@ -1,0 +1,2 @@
+-- Laws of the exports above.
+pub mod Giving

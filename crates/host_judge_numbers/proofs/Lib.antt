@@ -1,0 +1,2 @@
+-- Laws that the proof uses, and those of the exports above.
+pub mod Judging

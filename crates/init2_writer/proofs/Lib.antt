@@ -1,0 +1,2 @@
+-- Laws that the proof uses.
+pub mod Sending

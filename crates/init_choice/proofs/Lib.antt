@@ -1,0 +1,3 @@
+-- Laws that the proofs use.
+pub mod Enabling
+pub mod Scanning

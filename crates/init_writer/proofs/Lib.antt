@@ -1,3 +1,0 @@
--- Laws that the proofs share.
-pub mod Putting
-pub mod Sending

@@ -1,0 +1,2 @@
+-- Laws of one bit of a word.
+pub mod Places

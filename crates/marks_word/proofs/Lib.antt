@@ -1,0 +1,2 @@
+-- Laws of one word of marks.
+pub mod Trailing

@@ -1,2 +1,0 @@
--- Laws of the pool's functions.
-pub mod Gathering

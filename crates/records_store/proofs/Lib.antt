@@ -1,0 +1,2 @@
+-- Laws of arrays that are copied over.
+pub mod Filled

@@ -1,0 +1,2 @@
+-- Laws of a list that closes up.
+pub mod ClosingUp

@@ -1,0 +1,17 @@
+-- `suboption_data::is_bad` meets its contract.
+use Rattle.suboption.specs.Data.{bad-fresh, bad-long}
+use borrow.Author.Needs.{needs}
+use Rattle.suboption_data.proofs.is_bad.Statement.{statement}
+use Rattle.suboption_data.proofs.is_bad.Tie as tie
+
+is-fresh-requires : tie.Need-is-fresh-requires
+is-fresh-requires c κs = search needs
+
+returns : tie.Need-returns
+returns c = bad-fresh _ _ (c .before .is-fresh .ensures) (c .if1 .taken)
+
+returns-2 : tie.Need-returns-2
+returns-2 c = bad-long _ _ (c .before .before .is-fresh .ensures) (c .before .if1 .left)
+
+pub is-bad-spec : {M : Type 1} → statement M
+is-bad-spec = tie.close (tie.spec is-fresh-requires returns returns-2)

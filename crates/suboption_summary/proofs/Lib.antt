@@ -1,0 +1,3 @@
+-- Laws that the proofs use.
+pub mod Entries
+pub mod Told

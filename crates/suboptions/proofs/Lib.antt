@@ -1,4 +1,0 @@
--- Laws that the proofs share.
-pub mod Entries
-pub mod Fresh
-pub mod Told
