@@ -1,5 +1,5 @@
 /* The link unit for hosts in C: TCP-ENO options (RFC 8547), resumption of tcpcrypt sessions (RFC 8548), all doors of a platform, one pool of session records. What comes
- * after the handshake, Init messages, frames and generations, is in door_link_messages.h, which this header includes.
+ * after the handshake, Init messages, frames, a reader of both in pieces, and generations, is in door_link_messages.h, which this header includes.
  *
  * Link with libdoor_link.a, which `tools/host-library` writes to target/staticlib and `tools/install PREFIX` puts in place with these headers, a pkg-config file and a
  * CMake config. It is for x86-64 with the System V calling convention, and for user space alone: it uses the red zone and SSE registers, so neither a kernel nor an
@@ -83,8 +83,8 @@ extern "C" {
 #endif
 
 /* The number of this header. Each change of a struct, of an export or of a number raises it, and the library exports one name that carries its own,
- * door_link_abi_5. The inline functions refer to the name with the header's number, so a program that was compiled with another header does not link. */
-#define DOOR_LINK_ABI 5
+ * door_link_abi_6. The inline functions refer to the name with the header's number, so a program that was compiled with another header does not link. */
+#define DOOR_LINK_ABI 6
 
 enum {
     DOOR_LINK_DOORS = 48,       /* doors are 0 to DOOR_LINK_DOORS - 1 */
@@ -127,7 +127,7 @@ enum {
     DOOR_LINK_FOUND = 7,      /* door_link_find_status: 0 */
     DOOR_LINK_NONE = 8,       /* door_link_find_status: 0 */
     DOOR_LINK_BROKEN = 9      /* door_link_find_status: 0; place and option are given too */
-    /* 10 to 16: door_link_messages.h */
+    /* 10 to 18: door_link_messages.h */
 };
 
 /* Refusals. */
@@ -278,8 +278,8 @@ struct door_link_reply door_link_forget(uint32_t *marks, uint8_t (*rows)[DOOR_LI
 struct door_link_reply door_link_count(const uint32_t *marks, const uint8_t (*rows)[DOOR_LINK_ROW_BYTES], const uint8_t (*doors)[DOOR_LINK_DOOR_BYTES],
                                        size_t door);
 
-/* Gives 5. It is there for its name: see DOOR_LINK_ABI. */
-size_t door_link_abi_5(void);
+/* Gives 6. It is there for its name: see DOOR_LINK_ABI. */
+size_t door_link_abi_6(void);
 
 /* The bytes of a unit, DOOR_LINK_UNIT, for hosts that do not compile this header. */
 size_t door_link_unit_size(void);

@@ -1,4 +1,5 @@
-/* After the handshake, for hosts in C: Init messages, frames and generations of tcpcrypt (RFC 8548), and the judge of two option areas.
+/* After the handshake, for hosts in C: Init messages, frames and generations of tcpcrypt (RFC 8548), a reader of the two messages and frames in pieces, and the judge of
+ * two option areas.
  *
  * None of these calls knows a unit or a door: each answers from its arguments alone. What door_link.h says of bytes, null pointers, refusals and threads holds here
  * too. Lists of ciphers go in as a pointer and a count.
@@ -24,7 +25,9 @@ enum {
     DOOR_LINK_NONCE = 13,     /* 0 */
     DOOR_LINK_PLAINTEXT = 14, /* a plaintext was read: where its data begin; they run to its end */
     DOOR_LINK_SENT = 15,      /* a frame is sent: its generation */
-    DOOR_LINK_RECEIVED = 16   /* a frame came: its generation */
+    DOOR_LINK_RECEIVED = 16,  /* a frame came: its generation */
+    DOOR_LINK_WAITING = 17,   /* no item is finished: 0 */
+    DOOR_LINK_BODY = 18       /* a frame's body is over: where it ends in the stream */
 };
 
 /* Further refusals. */
@@ -222,6 +225,82 @@ static inline __typeof__(door_link_raw_plaintext_read) door_link_plaintext_read 
 static inline struct door_link_plaintext_reply door_link_plaintext_read(const uint8_t *bytes, size_t bytes_length) {
     door_link_abi();
     return door_link_raw_plaintext_read(door_link_bytes(bytes), door_link_length(bytes, bytes_length));
+}
+
+/* ---- Messages in pieces: one direction's stream as its bytes come, an Init message and then frames, cut anywhere. ---- */
+
+enum {
+    DOOR_LINK_NUMBERS = 4,     /* numbers of a reader */
+    DOOR_LINK_GATHERED = 4608  /* bytes in which it gathers an Init message */
+};
+
+/* A reader of one direction's stream, which the host keeps beside the connection. Begin with one of the three starts: door_link_pieces_init1 at host B,
+ * door_link_pieces_init2 at host A, door_link_pieces_frames where a session is resumed and there is no Init message; zeros read frames. Then hand over the bytes as
+ * they come: any pieces, of no bytes too. However the stream is cut, the items, the refusal with its position, and the reader in the end are the same.
+ *
+ *     for (size_t at = 0; at < length; at += fed.used) {
+ *         fed = door_link_pieces_feed(&reader, piece + at, length - at);
+ *         if (fed.kind == DOOR_LINK_REFUSED) abort_connection();
+ *         if (fed.kind == DOOR_LINK_WAITING) break;
+ *         ..                                           // an item: INIT, HEADER or BODY
+ *     }
+ *
+ * Bodies are not kept: a body is told as a range of the stream, whose bytes the host has. Where INIT is told, the message as received stands in `gathered` from place
+ * 0 on, `number` bytes of it, until the next start; the 32 bytes of its nonce begin at `place`, and behind them the key. Any values are a reader: every call is defined
+ * for all of them. */
+struct door_link_pieces {
+    uint64_t numbers[DOOR_LINK_NUMBERS];  /* the library's */
+    uint8_t gathered[DOOR_LINK_GATHERED]; /* looked at and written while an Init message is read, and at no other time */
+};
+
+/* What a reader says. What a kind does not have is 0. Positions, ranges and offsets count the stream's bytes from 0 at the start. */
+struct door_link_fed {
+    uint64_t number; /* INIT: the length of the message; HEADER: the offset after the frame; BODY: where it ends; or the refusal's number */
+    uint64_t place;  /* INIT: where its nonce begins in `gathered`; BODY: where it begins in the stream; or the byte that settled the refusal */
+    size_t used;     /* bytes of the piece that were taken: all where it waits, up to the item's last one, 0 beside a refusal. Give the rest again. */
+    size_t count;    /* INIT: ciphers that the message lists; 1 for Init2 */
+    uint16_t cipher; /* INIT: the cipher that both ends use from now on */
+    uint16_t clen;   /* HEADER: bytes of the ciphertext behind the header, with its tag */
+    uint8_t kind;
+    uint8_t rekey;                              /* HEADER: 1 where the frame is the first of a generation */
+    uint8_t associated[DOOR_LINK_HEADER_BYTES]; /* HEADER: the header as received */
+};
+
+/* The library's own, over the two arrays and their lengths, and without null: a host that reads frames alone may keep four numbers, and lend `gathered` with length 0.
+ * Shorter arrays are refused with 5: numbers below four, `gathered` below 4,608 for door_link_start_init2 and while an Init message is read. */
+struct door_link_reply door_link_start_init1(uint8_t tep, bool aes128, bool aes256, bool chacha20, uint64_t *numbers, size_t numbers_count);
+struct door_link_reply door_link_start_init2(uint8_t tep, const uint16_t *own, size_t own_count, uint64_t *numbers, size_t numbers_count, uint8_t *gathered,
+                                             size_t gathered_length);
+struct door_link_reply door_link_start_frames(uint64_t *numbers, size_t numbers_count);
+struct door_link_fed door_link_feed(uint64_t *numbers, size_t numbers_count, uint8_t *gathered, size_t gathered_length, const uint8_t *piece, size_t piece_length);
+
+/* Starts anew: host B's reader, of Init1 and the frames behind it, with the ciphers that are enabled. Beside a refusal the reader stays as it was, one that has refused too.
+ * Replies: DONE. Refused: 3 for another TEP than 0x23 and 0x24, without v. */
+static inline struct door_link_reply door_link_pieces_init1(struct door_link_pieces *reader, uint8_t tep, bool aes128, bool aes256, bool chacha20) {
+    door_link_abi();
+    return door_link_start_init1(tep, aes128, aes256, chacha20, reader->numbers, DOOR_LINK_NUMBERS);
+}
+
+/* The same for host A, whose own Init1 offered the ciphers `own`: of Init2 and the frames behind it. A null list is empty.
+ * Replies: DONE. Refused: 3 for another TEP or more than 255 ciphers. */
+static inline struct door_link_reply door_link_pieces_init2(struct door_link_pieces *reader, uint8_t tep, const uint16_t *own, size_t own_count) {
+    door_link_abi();
+    return door_link_start_init2(tep, door_link_ciphers(own), own ? own_count : 0, reader->numbers, DOOR_LINK_NUMBERS, reader->gathered, DOOR_LINK_GATHERED);
+}
+
+/* The same for a stream without an Init message: frames from 0 on. Never refused.
+ * Replies: DONE. */
+static inline struct door_link_reply door_link_pieces_frames(struct door_link_pieces *reader) {
+    door_link_abi();
+    return door_link_start_frames(reader->numbers, DOOR_LINK_NUMBERS);
+}
+
+/* Takes bytes up to the last byte of the first item that they finish. Null is no bytes.
+ * Replies: INIT, HEADER, BODY; WAITING. Refused: 8 at the first byte after which no continuation is an Init message; 10 at an Init message's last byte; 11 at the first
+ * byte after which no header avoids it. A refusal is given again, with its position, by every later call until the reader is started anew. */
+static inline struct door_link_fed door_link_pieces_feed(struct door_link_pieces *reader, const uint8_t *piece, size_t piece_length) {
+    door_link_abi();
+    return door_link_feed(reader->numbers, DOOR_LINK_NUMBERS, reader->gathered, DOOR_LINK_GATHERED, door_link_bytes(piece), door_link_length(piece, piece_length));
 }
 
 /* ---- Generations: rekeying. Each connection has one record, which the host keeps beside it. ---- */

@@ -1,5 +1,5 @@
-/* Two ends, each with a unit of its own: a fresh connection with its Init messages, frames and a rekey, then one that resumes a session, then refusals. Silent where
- * all is as it should be. */
+/* Two ends, each with a unit of its own: a fresh connection with its Init messages, frames and a rekey, then one that resumes a session, then a stream that comes in
+ * pieces, then refusals. Silent where all is as it should be. */
 #include "door_link.h"
 
 #include <stdio.h>
@@ -183,6 +183,63 @@ static void exchange_frames(struct end *a, struct end *b) {
     EXPECT(carry(b, a, door_link_generations_send(&b->generations, true), true, "doors are closed") == 1);
 }
 
+/* What host B does with A's stream, Init1 and frames, that TCP hands over in pieces. */
+struct receiving {
+    struct door_link_pieces reader;
+    struct door_link_generations generations;
+    struct door_link_fed init, header; /* the Init message; the frame that is under way */
+    size_t bodies;
+    uint64_t ends; /* where the last body ended */
+};
+
+/* One piece, of any length. False where the connection is to be given up. */
+static bool take_piece(struct receiving *b, const uint8_t *piece, size_t length) {
+    for (size_t at = 0; at < length;) {
+        struct door_link_fed fed = door_link_pieces_feed(&b->reader, piece + at, length - at);
+        if (fed.kind == DOOR_LINK_REFUSED) return false;
+        at += fed.used;
+        if (fed.kind == DOOR_LINK_INIT) b->init = fed;
+        if (fed.kind == DOOR_LINK_HEADER) b->header = fed;
+        if (fed.kind == DOOR_LINK_BODY) { /* the host opens these bytes of the stream, with `header.associated`, at the offset three before them */
+            EXPECT(fed.place == b->header.number - b->header.clen && fed.number == b->header.number);
+            EXPECT(door_link_generations_receive(&b->generations, b->header.rekey).kind == DOOR_LINK_RECEIVED);
+            b->bodies++;
+            b->ends = fed.number;
+        }
+    }
+    return true;
+}
+
+/* The same stream in pieces of each length. */
+static void receive_in_pieces(void) {
+    static const uint16_t ciphers[2] = {DOOR_LINK_CHACHA20_POLY1305, DOOR_LINK_AES128_GCM};
+    uint8_t nonce[DOOR_LINK_INIT_NONCE], key[DOOR_LINK_CURVE25519_KEY], stream[256];
+    memset(nonce, 0xa1, sizeof nonce);
+    memset(key, 0xa2, sizeof key);
+    size_t length = door_link_written(door_link_init1_write(DOOR_LINK_CURVE25519, ciphers, 2, nonce, 32, key, 32, stream, sizeof stream));
+    for (int i = 0; i < 3; i++) {
+        struct door_link_reply next = door_link_header_write(i == 1, 20 + (size_t)i, length, stream + length, sizeof stream - length);
+        EXPECT(next.kind == DOOR_LINK_NEXT);
+        memset(stream + length + 3, 0xb0 + i, next.number - length - 3); /* stands in for the ciphertext */
+        length = next.number;
+    }
+    for (size_t size = 1; size <= length; size++) {
+        static struct receiving b;
+        b = (struct receiving){.generations = door_link_first_record()};
+        EXPECT(says(door_link_pieces_init1(&b.reader, DOOR_LINK_CURVE25519, true, true, false), DOOR_LINK_DONE, 0));
+        for (size_t at = 0; at < length; at += size) EXPECT(take_piece(&b, stream + at, length - at < size ? length - at : size));
+        EXPECT(b.init.number == 77 && b.init.count == 2 && b.init.cipher == DOOR_LINK_AES128_GCM && b.bodies == 3 && b.ends == length);
+        EXPECT(memcmp(b.reader.gathered + b.init.place, nonce, 32) == 0 && memcmp(b.reader.gathered + b.init.place + 32, key, 32) == 0);
+        EXPECT(b.generations.remote == 1);
+
+        /* A header that no frame has: refused, and again, until the reader is started anew. */
+        EXPECT(!take_piece(&b, (const uint8_t *)"\0\0\0", 3) && !take_piece(&b, stream, 1));
+        struct door_link_fed fed = door_link_pieces_feed(&b.reader, NULL, 0);
+        EXPECT(fed.kind == DOOR_LINK_REFUSED && fed.number == DOOR_LINK_NO_FRAME && fed.place == length + 2);
+        EXPECT(says(door_link_pieces_frames(&b.reader), DOOR_LINK_DONE, 0) && take_piece(&b, stream, 1));
+    }
+}
+
 int main(void) {
     static const uint8_t tep = DOOR_LINK_CURVE25519;
     static const uint8_t zeros[DOOR_LINK_SECRET] = {0};
@@ -218,6 +275,7 @@ int main(void) {
     /* No Init messages then: the frames begin where the streams do. */
     active.sends_at = active.receives_at = passive.sends_at = passive.receives_at = 0;
     exchange_frames(&active, &passive);
+    receive_in_pieces();
 
     /* Refusals leave the unit as it was. */
     struct door_link_unit before = active.unit;

@@ -52,6 +52,14 @@ _Static_assert(sizeof(struct door_link_plaintext_reply) == 16 && _Alignof(struct
 _Static_assert(offsetof(struct door_link_plaintext_reply, number) == 0 && offsetof(struct door_link_plaintext_reply, urgent) == 8, "a plaintext: number, urgent");
 _Static_assert(offsetof(struct door_link_plaintext_reply, kind) == 10 && offsetof(struct door_link_plaintext_reply, fin) == 11, "a plaintext: kind, fin");
 _Static_assert(offsetof(struct door_link_plaintext_reply, urg) == 12, "a plaintext: urg");
+_Static_assert(sizeof(struct door_link_pieces) == 4640 && _Alignof(struct door_link_pieces) == 8, "a reader of pieces");
+_Static_assert(offsetof(struct door_link_pieces, numbers) == 0 && offsetof(struct door_link_pieces, gathered) == 32, "a reader of pieces: its arrays");
+_Static_assert(sizeof(struct door_link_fed) == 48 && _Alignof(struct door_link_fed) == 8, "what a reader says");
+_Static_assert(offsetof(struct door_link_fed, number) == 0 && offsetof(struct door_link_fed, place) == 8, "what a reader says: number, place");
+_Static_assert(offsetof(struct door_link_fed, used) == 16 && offsetof(struct door_link_fed, count) == 24, "what a reader says: used, count");
+_Static_assert(offsetof(struct door_link_fed, cipher) == 32 && offsetof(struct door_link_fed, clen) == 34, "what a reader says: cipher, clen");
+_Static_assert(offsetof(struct door_link_fed, kind) == 36 && offsetof(struct door_link_fed, rekey) == 37, "what a reader says: kind, rekey");
+_Static_assert(offsetof(struct door_link_fed, associated) == 38, "what a reader says: associated data");
 _Static_assert(sizeof(struct door_link_generations) == 8 && _Alignof(struct door_link_generations) == 2, "a generation record");
 _Static_assert(offsetof(struct door_link_generations, local) == 0 && offsetof(struct door_link_generations, remote) == 2, "a generation record: local, remote");
 _Static_assert(offsetof(struct door_link_generations, last) == 4 && offsetof(struct door_link_generations, fin) == 6, "a generation record: last, fin");
@@ -149,6 +157,72 @@ static void frames(void) {
     EXPECT(text.kind == DOOR_LINK_PLAINTEXT && text.number == 1 && text.urgent == 0 && text.fin == 1 && text.urg == 0);
     text = door_link_plaintext_read(bytes, 0);
     EXPECT(text.kind == DOOR_LINK_REFUSED && text.number == DOOR_LINK_NO_PLAINTEXT && !text.urgent && !text.fin && !text.urg);
+}
+
+/* The numbers of a reader. */
+static bool stands(const struct door_link_pieces *r, uint64_t position, uint64_t first, uint64_t second, uint64_t stage) {
+    return r->numbers[0] == position && r->numbers[1] == first && r->numbers[2] == second && r->numbers[3] == stage;
+}
+
+/* What a reader says, with no number of another kind. */
+static bool tells(struct door_link_fed fed, uint8_t kind, uint64_t number, uint64_t place, size_t used) {
+    if (fed.kind != DOOR_LINK_INIT && (fed.count || fed.cipher)) return false;
+    if (fed.kind != DOOR_LINK_HEADER && (fed.clen || fed.rekey || !all_zero(fed.associated, 3))) return false;
+    return fed.kind == kind && fed.number == number && fed.place == place && fed.used == used;
+}
+
+/* Pieces: the reader's numbers and bytes after each step, and replies whose fields all differ. */
+static void pieces(void) {
+    static const uint16_t ciphers[3] = {0x7788, DOOR_LINK_AES256_GCM, DOOR_LINK_CHACHA20_POLY1305};
+    struct door_link_pieces reader;
+    uint8_t nonce[32], key[56], stream[160];
+    count_up(nonce, 32, 0x40);
+    count_up(key, 56, 0x80);
+    EXPECT(door_link_init1_write(DOOR_LINK_CURVE448, ciphers, 3, nonce, 32, key, 56, stream, sizeof stream).number == 103);
+    memcpy(stream + 103, "\xff\x00\x12", 3);
+    memset(stream + 106, 0xcc, 54);
+
+    /* Init1: gathered as it comes, and the bytes behind it are as they were. */
+    memset(&reader, 0xee, sizeof reader);
+    struct door_link_reply reply = door_link_pieces_init1(&reader, 0x21, true, true, true);
+    EXPECT(reply.kind == DOOR_LINK_REFUSED && reply.number == DOOR_LINK_UNFIT && reader.numbers[3] == 0xeeeeeeeeeeeeeeeeu);
+    reply = door_link_pieces_init1(&reader, DOOR_LINK_CURVE448, false, true, true);
+    EXPECT(reply.kind == DOOR_LINK_DONE && !reply.number && stands(&reader, 0, DOOR_LINK_CURVE448, 6, 4));
+    EXPECT(tells(door_link_pieces_feed(&reader, stream, 50), DOOR_LINK_WAITING, 0, 0, 50) && stands(&reader, 50, DOOR_LINK_CURVE448, 6, 4));
+    EXPECT(tells(door_link_pieces_feed(&reader, NULL, 7), DOOR_LINK_WAITING, 0, 0, 0) && reader.gathered[50] == 0xee);
+    struct door_link_fed fed = door_link_pieces_feed(&reader, stream + 50, 110);
+    EXPECT(tells(fed, DOOR_LINK_INIT, 103, 15, 53) && fed.count == 3 && fed.cipher == DOOR_LINK_AES256_GCM && stands(&reader, 103, 0, 0, 0));
+    EXPECT(memcmp(reader.gathered, stream, 103) == 0 && reader.gathered[103] == 0xee && reader.gathered[4607] == 0xee);
+    EXPECT(memcmp(reader.gathered + fed.place, nonce, 32) == 0 && memcmp(reader.gathered + fed.place + 32, key, 56) == 0);
+
+    /* A frame behind it: header and body. */
+    EXPECT(tells(door_link_pieces_feed(&reader, stream + 103, 1), DOOR_LINK_WAITING, 0, 0, 1) && stands(&reader, 104, 0xff, 0, 1));
+    EXPECT(tells(door_link_pieces_feed(&reader, stream + 104, 1), DOOR_LINK_WAITING, 0, 0, 1) && stands(&reader, 105, 0xff, 0, 2));
+    fed = door_link_pieces_feed(&reader, stream + 105, 55);
+    EXPECT(tells(fed, DOOR_LINK_HEADER, 124, 0, 1) && fed.clen == 18 && fed.rekey == 1 && memcmp(fed.associated, stream + 103, 3) == 0);
+    EXPECT(stands(&reader, 106, 106, 124, 3));
+    EXPECT(tells(door_link_pieces_feed(&reader, stream + 106, 54), DOOR_LINK_BODY, 124, 106, 18) && stands(&reader, 124, 0, 0, 0));
+
+    /* A refusal stays: a ciphertext of 16 bytes is none. */
+    for (int i = 0; i < 3; i++)
+        EXPECT(tells(door_link_pieces_feed(&reader, (const uint8_t *)"\0\0\x10", i == 1 ? 0 : 3), DOOR_LINK_REFUSED, 11, 126, 0) && stands(&reader, 126, 11, 0, 6));
+    EXPECT(door_link_pieces_init2(&reader, DOOR_LINK_CURVE25519, ciphers, 256).number == DOOR_LINK_UNFIT && stands(&reader, 126, 11, 0, 6));
+
+    /* Init2: A's list, behind the longest message. */
+    EXPECT(door_link_pieces_init2(&reader, DOOR_LINK_CURVE25519, ciphers, 3).kind == DOOR_LINK_DONE && stands(&reader, 0, DOOR_LINK_CURVE25519, 3, 5));
+    EXPECT(memcmp(reader.gathered + 4096, "\x77\x88\0\x02\0\x10\xee", 7) == 0 && memcmp(reader.gathered, stream, 103) == 0);
+    EXPECT(door_link_init2_write(DOOR_LINK_CURVE25519, 0x7788, nonce, 32, key, 32, stream, sizeof stream).number == 74);
+    fed = door_link_pieces_feed(&reader, stream, 74);
+    EXPECT(tells(fed, DOOR_LINK_INIT, 74, 10, 74) && fed.count == 1 && fed.cipher == 0x7788 && memcmp(reader.gathered, stream, 74) == 0);
+
+    /* Frames from the start on: four numbers will do. */
+    EXPECT(door_link_pieces_frames(&reader).kind == DOOR_LINK_DONE && stands(&reader, 0, 0, 0, 0));
+    EXPECT(tells(door_link_feed(reader.numbers, 4, reader.gathered, 0, (const uint8_t *)"\0\0\x11", 3), DOOR_LINK_HEADER, 20, 0, 3));
+    EXPECT(tells(door_link_feed(reader.numbers, 3, reader.gathered, 4608, stream, 74), DOOR_LINK_REFUSED, DOOR_LINK_NO_ROOM, 0, 0) && stands(&reader, 3, 3, 20, 3));
+    EXPECT(door_link_start_frames(reader.numbers, 3).number == DOOR_LINK_NO_ROOM && door_link_start_init1(0x23, true, true, true, reader.numbers, 3).number == 5);
+    EXPECT(door_link_start_init2(0x23, ciphers, 3, reader.numbers, 4, reader.gathered, 4607).number == DOOR_LINK_NO_ROOM && stands(&reader, 3, 3, 20, 3));
+    EXPECT(door_link_pieces_init1(&reader, 0x23, true, true, true).kind == DOOR_LINK_DONE);
+    EXPECT(tells(door_link_feed(reader.numbers, 4, reader.gathered, 4607, stream, 74), DOOR_LINK_REFUSED, DOOR_LINK_NO_ROOM, 0, 0) && stands(&reader, 0, 0x23, 7, 4));
 }
 
 static bool has(struct door_link_generations g, uint16_t local, uint16_t remote, uint16_t last, bool fin) {
@@ -300,7 +374,7 @@ int main(void) {
     memset(&unit, 0xee, sizeof unit);
     door_link_unit_erase(&unit);
     EXPECT(all_zero((const uint8_t *)&unit, sizeof unit));
-    EXPECT(door_link_abi_5() == DOOR_LINK_ABI && door_link_unit_size() == sizeof unit);
+    EXPECT(door_link_abi_6() == DOOR_LINK_ABI && door_link_unit_size() == sizeof unit);
 
     /* The second record's row, and its number at the door. */
     EXPECT(door_link_unit_store(&unit, OTHER, 0x23, 0, identifier, 18, secret, 32).kind == DOOR_LINK_DONE);
@@ -339,6 +413,7 @@ int main(void) {
 
     init_messages();
     frames();
+    pieces();
     generations();
     judgement();
     places();

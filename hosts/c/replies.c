@@ -86,6 +86,24 @@ static void other_nulls(size_t n) {
     EXPECT(says(door_link_judge_plainly(option, 4, NULL, n, false, none).reply, DOOR_LINK_PLAIN, DOOR_LINK_NO_OPTION));
 }
 
+/* Of a reader of pieces: no bytes, and an empty list. */
+static void piece_nulls(size_t n) {
+    static struct door_link_pieces reader;
+    static const uint8_t init2[10] = {0x09, 0x71, 0x05, 0xe0, 0, 0, 0, 74, 0, 1};
+    EXPECT(says(door_link_pieces_init2(&reader, DOOR_LINK_CURVE25519, NULL, n), DOOR_LINK_DONE, 0));
+    for (int i = 0; i < 3; i++) {
+        struct door_link_fed fed = door_link_pieces_feed(&reader, NULL, n);
+        EXPECT(fed.kind == DOOR_LINK_WAITING && !fed.number && !fed.place && !fed.used);
+        fed = door_link_pieces_feed(&reader, i == 0 ? init2 : some, i == 0 ? 10 : 32);
+        if (i < 2) EXPECT(fed.kind == DOOR_LINK_WAITING && fed.used == (i == 0 ? 10 : 32));
+        else EXPECT(fed.kind == DOOR_LINK_REFUSED && fed.number == DOOR_LINK_NO_CIPHER && fed.place == 73 && !fed.used);
+    }
+    struct door_link_fed again = door_link_pieces_feed(&reader, NULL, n);
+    EXPECT(again.kind == DOOR_LINK_REFUSED && again.number == DOOR_LINK_NO_CIPHER && again.place == 73 && !again.used);
+    EXPECT(says(door_link_pieces_init1(&reader, 0xa3, true, true, true), DOOR_LINK_REFUSED, DOOR_LINK_UNFIT));
+    EXPECT(says(door_link_pieces_frames(&reader), DOOR_LINK_DONE, 0) && door_link_pieces_feed(&reader, NULL, n).kind == DOOR_LINK_WAITING);
+}
+
 /* The questions, over every kind with the numbers of all others: no number is taken for another kind's. */
 static void questions(void) {
     static const size_t phases[5] = {DOOR_LINK_IDLE, DOOR_LINK_OFFERED, DOOR_LINK_CROSSED, DOOR_LINK_ANSWERED, DOOR_LINK_OPEN};
@@ -167,7 +185,7 @@ static void without_pointers(void) {
     EXPECT(!door_link_is_owed(g) && door_link_send(g, false).kind == DOOR_LINK_SENT && door_link_receive_frame(g, true).number == 1);
     EXPECT(door_link_generations_initiate(&g, true, false).number == 1 && door_link_generations_receive(&g, true).number == 1);
     EXPECT(door_link_generations_send(&g, true).number == 1 && g.fin && door_link_initiate(g, true, false).number == DOOR_LINK_FINISHED);
-    EXPECT(door_link_abi_5() == DOOR_LINK_ABI && door_link_unit_size() == DOOR_LINK_UNIT);
+    EXPECT(door_link_abi_6() == DOOR_LINK_ABI && door_link_unit_size() == DOOR_LINK_UNIT);
 }
 
 int main(void) {
@@ -175,6 +193,7 @@ int main(void) {
     for (size_t i = 0; i < sizeof lengths / sizeof lengths[0]; i++) {
         init_nulls(lengths[i]);
         other_nulls(lengths[i]);
+        piece_nulls(lengths[i]);
     }
     questions();
     a_door();

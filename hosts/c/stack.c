@@ -17,6 +17,7 @@ static struct {
     bool flag, other;
     struct door_link_generations generations;
     struct door_link_hand hand;
+    struct door_link_pieces reader;
 } given;
 
 /* Keeps the compiler from leaving a call out. */
@@ -46,6 +47,12 @@ static void plaintext_write(void) {
     kept = door_link_plaintext_write(given.flag, given.other, given.ciphers[0], given.bytes, given.bytes_length, given.lent, given.lent_length).kind;
 }
 static void plaintext_read(void) { kept = door_link_plaintext_read(given.bytes, given.bytes_length).kind; }
+static void start_init1(void) { kept = door_link_pieces_init1(&given.reader, given.tep, given.flag, given.other, true).kind; }
+static void start_init2(void) { kept = door_link_pieces_init2(&given.reader, given.tep, given.ciphers, given.ciphers_count).kind; }
+static void start_frames(void) { kept = door_link_pieces_frames(&given.reader).kind; }
+static void feed(void) { kept = door_link_pieces_feed(&given.reader, given.bytes, given.bytes_length).kind; }
+static void feed_init1(void) { start_init1(), kept = door_link_pieces_feed(&given.reader, given.lent, given.lent_length).kind; }
+static void feed_init2(void) { start_init2(), kept = door_link_pieces_feed(&given.reader, given.lent, given.lent_length).kind; }
 static void first_record(void) { kept = door_link_first_record().fin; }
 static void is_owed(void) { kept = door_link_is_owed(given.generations); }
 static void send_frame(void) { kept = door_link_generations_send(&given.generations, given.flag).kind; }
@@ -53,9 +60,10 @@ static void initiate(void) { kept = door_link_generations_initiate(&given.genera
 static void receive_frame(void) { kept = door_link_generations_receive(&given.generations, given.flag).kind; }
 
 static const struct unit_call other_calls[] = {
-    {"find_status", find_status}, {"judge", judge}, {"judge_plainly", judge_plainly}, {"init1_write", init1_write}, {"init1_read", init1_read}, {"init2_write", init2_write},
-    {"init2_read", init2_read}, {"next_offset", next_offset}, {"header_write", header_write}, {"header_read", header_read}, {"frame_id", frame_id},
+    {"find_status", find_status}, {"judge", judge}, {"judge_plainly", judge_plainly}, {"init1_write", init1_write}, {"init1_read", init1_read},
+    {"feed_init1", feed_init1}, {"init2_write", init2_write}, {"init2_read", init2_read}, {"feed_init2", feed_init2}, {"next_offset", next_offset}, {"header_write", header_write}, {"header_read", header_read}, {"frame_id", frame_id},
     {"nonce", nonce}, {"plaintext_write", plaintext_write}, {"plaintext_read", plaintext_read}, {"first_record", first_record}, {"is_owed", is_owed},
+    {"start_init1", start_init1}, {"start_init2", start_init2}, {"start_frames", start_frames}, {"feed", feed},
     {"send", send_frame}, {"initiate", initiate}, {"receive_frame", receive_frame},
 };
 
@@ -68,9 +76,11 @@ static void measure(size_t place, void (*make)(void)) {
     static const uint8_t paints[2] = {0x5a, 0xa5};
     const struct unit before = unit;
     const struct door_link_generations record = given.generations;
+    const struct door_link_pieces reader = given.reader;
     for (int i = 0; i < 2; i++) {
         unit = before;
         given.generations = record;
+        given.reader = reader;
         run_painted(make, paints[i]);
         const size_t depth = painted_depth(paints[i]);
         if (depth > deepest[place]) deepest[place] = depth;
@@ -102,6 +112,9 @@ static void some_input(void) {
     given.generations.remote = (uint16_t)word();
     given.generations.last = one_in(2) ? given.generations.local : (uint16_t)word();
     given.generations.fin = one_in(4);
+    fill((uint8_t *)&given.reader, sizeof given.reader);
+    given.reader.numbers[0] = one_in(2) ? below(5000) : word();
+    given.reader.numbers[3] = below(8);
     const struct session_record record = some_record(&unit.doors[below(DOOR_LINK_DOORS)]);
     given.hand.held = one_in(2);
     memcpy(&given.hand.session, &record, sizeof record);

@@ -10,7 +10,7 @@ use init::InitRead;
 use init::InitWritten;
 
 // Reads the ciphers behind a word, two bytes each, of which there are at most eight. Gives how many.
-fn ciphers(line: &[u8], word: u32, out: &mut [u16]) -> usize {
+pub fn ciphers(line: &[u8], word: u32, out: &mut [u16]) -> usize {
     let mut list = [0u8; 16];
     let n = read::list(line, word, &mut list) / 2;
     let mut i = 0;
@@ -25,7 +25,7 @@ fn ciphers(line: &[u8], word: u32, out: &mut [u16]) -> usize {
 }
 
 // The first n ciphers; all where there are fewer.
-fn first(ciphers: &[u16], n: usize) -> &[u16] {
+pub fn first(ciphers: &[u16], n: usize) -> &[u16] {
     if ciphers.len() < n {
         return ciphers;
     }
@@ -96,7 +96,7 @@ fn read_answer(answer: InitAnswer) -> Answer {
     }
 }
 
-fn enabled(line: &[u8]) -> Enabled {
+pub fn enabled(line: &[u8]) -> Enabled {
     Enabled {
         aes128: read::has(line, word::AES128),
         aes256: read::has(line, word::AES256),

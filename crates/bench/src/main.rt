@@ -7,6 +7,9 @@ mod generation_calls;
 mod generation_rows;
 mod init_calls;
 mod init_rows;
+mod piece_calls;
+mod piece_rows;
+mod piece_table;
 mod plaintext_calls;
 mod read;
 mod rfc8547;
@@ -23,4 +26,5 @@ fn main() {
     init_rows::table();
     frame_rows::table();
     generation_rows::table();
+    piece_rows::table();
 }

@@ -14,14 +14,14 @@ use link_unit::ROW;
 use link_unit::ROWS;
 use link_unit::WORDS;
 
-fn is_call(line: &[u8]) -> bool {
+pub fn is_call(line: &[u8]) -> bool {
     if line.len() == 0 {
         return false;
     }
     line[0] == b' '
 }
 
-fn name(line: &[u8]) {
+pub fn name(line: &[u8]) {
     say::text(line);
     say::text(b"\n");
 }

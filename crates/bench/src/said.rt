@@ -54,6 +54,20 @@ pub const RECEIVED: usize = 332;
 
 pub const RECORD: usize = 344;
 
+pub const STARTED: usize = 382;
+
+pub const WAITING: usize = 391;
+
+pub const INIT1: usize = 407;
+
+pub const INIT2: usize = 448;
+
+pub const FED_HEADER: usize = 481;
+
+pub const BODY: usize = 520;
+
+pub const REFUSED_AT: usize = 540;
+
 pub fn five(form: usize, a: u64, b: u64, c: u64, d: u64, e: u64) -> Answer {
     Answer {
         form,

@@ -75,7 +75,7 @@ fn put_form(out: &mut [u8], at: usize, form: &[u8], said: Answer) -> usize {
 // Puts the words of an answer and gives the place after them; what does not fit is left out.
 pub fn put_answer(out: &mut [u8], at: usize, said: Answer) -> usize {
     let all =
-        b" refused #. wrote #. plain #. plain # place # kind %. holds #. done. Idle. Offered. Crossed. Answered. Open. Plain. role # TEP % fresh transcript #. role # TEP % resumed transcript #. cipher %% count # length #. next #. rekey # length # next #. made. fin # urg # urgent # from #. wrote # fin # urg # urgent # from #. sent # rekey #. received #. local # remote # last # fin # owed #.";
+        b" refused #. wrote #. plain #. plain # place # kind %. holds #. done. Idle. Offered. Crossed. Answered. Open. Plain. role # TEP % fresh transcript #. role # TEP % resumed transcript #. cipher %% count # length #. next #. rekey # length # next #. made. fin # urg # urgent # from #. wrote # fin # urg # urgent # from #. sent # rekey #. received #. local # remote # last # fin # owed #. started. used # waiting. used # init1 cipher %% count # length #. used # init2 cipher %% length #. used # header rekey # length # next #. used # body # to #. refused # at #.";
     let form = said.form;
     let end = text_words::place_of(all, form, b'.');
     put_form(out, at, text_words::between(all, form, end), said)

@@ -88,3 +88,15 @@ pub const LOCAL: u32 = 0x6c6f_6361;
 pub const REMOTE: u32 = 0x7265_6d6f;
 
 pub const LAST: u32 = 0x6c61_7374;
+
+pub const START: u32 = 0x7374_6172;
+
+pub const FEED: u32 = 0x6665_6564;
+
+pub const POSITION: u32 = 0x706f_7369;
+
+pub const FIRST: u32 = 0x6669_7273;
+
+pub const SECOND: u32 = 0x7365_636f;
+
+pub const STAGE: u32 = 0x7374_6167;

@@ -9,7 +9,7 @@ use text_words::place_of;
 const LONGEST: usize = 20000;
 
 // The last of the forms, which writes them.
-const HELP: usize = 27;
+const HELP: usize = 31;
 
 // What a line asks, or what is wrong with it. A form is its number in the list of main.
 pub enum Asked {

@@ -6,6 +6,8 @@ mod lines;
 mod message_calls;
 mod message_replies;
 mod output;
+mod piece_calls;
+mod piece_replies;
 mod text;
 mod texts;
 mod unfit;
@@ -15,6 +17,7 @@ mod words;
 
 use generation::GenerationRecord;
 use generation_calls::Called;
+use input::Place;
 use lines::Asked;
 use link_unit::DOORS;
 use link_unit::PLACE;
@@ -118,6 +121,8 @@ fn run_line(
     rows: &mut [[u8; ROW]; ROWS],
     doors: &mut [[u8; PLACE]; DOORS],
     record: GenerationRecord,
+    numbers: &mut [u64],
+    gathered: &mut [u8],
     number: u64,
     line: &[u8],
     long: bool,
@@ -149,6 +154,10 @@ take REKEY
 owed
 judge MANDATORY RECORD AREA AREA
 judge-plainly MANDATORY RECORD AREA AREA
+pieces-init1 TEP ENABLED
+pieces-init2 TEP CIPHERS
+pieces-frames
+feed BYTES
 help
 ";
     let kinds = b"noffbfbl
@@ -178,6 +187,10 @@ f
 
 frbb
 frbb
+te
+tp
+
+b
 
 ";
     let mut words = [0u64; 16];
@@ -195,6 +208,11 @@ frbb
             Ran { record, written }
         }
         Asked::Form { form, room, lends } => {
+            // The forms from 27 on are those of the reader of pieces.
+            if 26 < form {
+                let written = piece_calls::run(form, &words, &bytes, numbers, gathered);
+                return Ran { record, written };
+            }
             let n = text::within(room, &lent);
             run_form(
                 marks,
@@ -215,7 +233,47 @@ frbb
     }
 }
 
-// Runs the input to its end, or to a reply that cannot be written. The unit and the generation record stand here.
+// The number of the line that is at hand, the one before it having this.
+fn counted(number: u64, whole: bool) -> u64 {
+    if whole {
+        return std::num::wrapping_add_u64(number, 1);
+    }
+    number
+}
+
+// Runs the line that is at hand, where it is whole.
+fn run_whole(
+    marks: &mut [u32; WORDS],
+    rows: &mut [[u8; ROW]; ROWS],
+    doors: &mut [[u8; PLACE]; DOORS],
+    record: GenerationRecord,
+    numbers: &mut [u64],
+    gathered: &mut [u8],
+    number: u64,
+    line: &[u8],
+    place: Place,
+) -> Ran {
+    if !place.whole {
+        return Ran {
+            record,
+            written: true,
+        };
+    }
+    let words = text_lines::without_return(text_words::first(line, place.length));
+    run_line(
+        marks,
+        rows,
+        doors,
+        record,
+        numbers,
+        gathered,
+        number,
+        words,
+        place.long,
+    )
+}
+
+// Runs the input to its end, or to a reply that cannot be written. The unit, the generation record and the reader of pieces stand here.
 fn run() {
     let mut marks = [0u32; WORDS];
     let row = [0u8; ROW];
@@ -224,6 +282,9 @@ fn run() {
     let mut doors = [door; DOORS];
     link_unit::erase(&mut marks, &mut rows, &mut doors);
     let mut record = generation_record::first_record();
+    // Zeros read frames, from position 0.
+    let mut numbers = [0u64; 4];
+    let mut gathered = [0u8; 4608];
     let mut chunk = [0u8; 65536];
     // A line's 20,000 bytes, and a carriage return.
     let mut line = [0u8; 20001];
@@ -236,24 +297,23 @@ fn run() {
         }
         turns -= 1;
         place = input::advance(&mut chunk, &mut line, place);
-        if place.whole {
-            number = std::num::wrapping_add_u64(number, 1);
-            let words = text_lines::without_return(text_words::first(&line, place.length));
-            let ran = run_line(
-                &mut marks,
-                &mut rows,
-                &mut doors,
-                record,
-                number,
-                words,
-                place.long,
-            );
-            if !ran.written {
-                output::failed();
-                return;
-            }
-            record = ran.record;
+        number = counted(number, place.whole);
+        let ran = run_whole(
+            &mut marks,
+            &mut rows,
+            &mut doors,
+            record,
+            &mut numbers,
+            &mut gathered,
+            number,
+            &line,
+            place,
+        );
+        if !ran.written {
+            output::failed();
+            return;
         }
+        record = ran.record;
     }
 }
 

@@ -21,7 +21,7 @@ ghost use lib.ListN.{length};
 const CIPHERS: usize = 5000;
 
 // The ciphers that bytes list, two bytes each, and how many there are.
-fn listed(bytes: &[u8], into: &mut [u16]) -> usize
+pub fn listed(bytes: &[u8], into: &mut [u16]) -> usize
     ensures { λ r. ⌜ r ≤ length (now (into .entry)) ⌝ }
 {
     let count = bytes.len() / 2;

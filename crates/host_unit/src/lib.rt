@@ -22,10 +22,10 @@ const UNIT_SIZE: usize = WORDS * WORD + ROWS * ROW + DOORS * PLACE;
 
 // The number of this interface, which its name carries: a host built for another does not link.
 #[no_mangle]
-pub extern "C" fn door_link_abi_5() -> usize
-    ensures { λ r. ⌜ r ≡ 5 ⌝ }
+pub extern "C" fn door_link_abi_6() -> usize
+    ensures { λ r. ⌜ r ≡ 6 ⌝ }
 {
-    5
+    6
 }
 
 // The bytes of the three arrays: words of marks, rows and doors.

@@ -36,7 +36,7 @@ unfolding lengthAt numberAt number
 length-more p q = number-more 4 0 0 p q 4 (omega arith)
 
 -- the length is settled once its bytes are at hand
-length-settled : (p q : List ℕ) → 8 ≤ length p → lengthAt (p ++ q) ≡ lengthAt p
+pub length-settled : (p q : List ℕ) → 8 ≤ length p → lengthAt (p ++ q) ≡ lengthAt p
 unfolding lengthAt
 length-settled p q h = number-settled 4 4 p q h
 
@@ -62,7 +62,7 @@ magic-less m p q e = same-agrees m p (go (agrees-same m (p ++ q) e) (decLt (leng
         sym (take-append-le (length m) p q (omega arith))
         ∙ (f ∙ (take-all (length (p ++ q)) m (omega (arith, length-append p q)) ∙ sym (take-all (length p) m (omega arith))))
 
-magic-more : (m p q : List ℕ) → length m ≤ length p → agrees m p ≡ true → agrees m (p ++ q) ≡ true
+pub magic-more : (m p q : List ℕ) → length m ≤ length p → agrees m p ≡ true → agrees m (p ++ q) ≡ true
 magic-more m p q h e =
     same-agrees m (p ++ q)
     (take-append-le (length m) p q h
@@ -155,7 +155,7 @@ unfolding magicOf lengthAt numberAt number numberAfter bytesFrom
 short-3 init1 a b c = omega arith
 short-3 init2 a b c = omega arith
 
-bytes-drop : (n : ℕ) (p : List ℕ) → Bytes p → Bytes (drop n p)
+pub bytes-drop : (n : ℕ) (p : List ℕ) → Bytes p → Bytes (drop n p)
 bytes-drop zero p b = b
 bytes-drop (suc n) [] b = tt
 bytes-drop (suc n) (x ∷ p) b = bytes-drop n p (b .1)
@@ -231,7 +231,7 @@ module _ (i : Init) (keys : ℕ) (few : keys ≤ 56) where
 pub readable-whole : (i : Init) (keys : ℕ) (p : List ℕ) → Readable i keys p → WholeFor i keys p
 readable-whole i keys p r = subst (WholeFor i keys) (r .layout) (readable-found i keys (r .message) (r .rest) (r .fits) .is-whole)
 
-whole-hopeful : (i : Init) (keys : ℕ) (p : List ℕ) → WholeFor i keys p → HopefulFor i keys p
+pub whole-hopeful : (i : Init) (keys : ℕ) (p : List ℕ) → WholeFor i keys p → HopefulFor i keys p
 whole-hopeful i keys p w = record { fields = w .fields .hopeful; clear = w .clear }
 
 pub continues-hopeful : (i : Init) (keys : ℕ) (p : List ℕ) → Continues i keys p → HopefulFor i keys p

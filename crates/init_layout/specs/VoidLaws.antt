@@ -122,7 +122,7 @@ unfolding countAt
 count-short init1 p h = List·getD-eq-default p 1 {n = 8} h
 count-short init2 p h = refl
 
-from-eight : (i : Init) → 8 ≤ ciphersFrom i
+pub from-eight : (i : Init) → 8 ≤ ciphersFrom i
 unfolding ciphersFrom
 from-eight init1 = omega arith
 from-eight init2 = omega arith
@@ -131,7 +131,7 @@ pub clear-short : (i : Init) (p : List ℕ) → length p ≤ 8 → voidAt i p �
 clear-short i p h = clear-of i p (λ e. omega (arith, count-short i p h)) (void-past (countAt i p) (ciphersFrom i) p (omega (arith, from-eight i)))
 
 -- fewer bytes
-count-settled : (i : Init) (p q : List ℕ) → 8 < length p → countAt i (p ++ q) ≡ countAt i p
+pub count-settled : (i : Init) (p q : List ℕ) → 8 < length p → countAt i (p ++ q) ≡ countAt i p
 unfolding countAt
 count-settled init1 p q h = List·getD-append p q 1 8 h
 count-settled init2 p q h = refl

@@ -43,6 +43,28 @@ pub struct Init {
 }
 
 impl Init {
+    /// Of fields that were tested; the key has at most [`INIT_KEY`] bytes.
+    #[inline]
+    pub(crate) fn new(
+        cipher: u16,
+        count: usize,
+        length: usize,
+        nonce: [u8; INIT_NONCE],
+        bytes: &[u8],
+    ) -> Init {
+        let key_length = bytes.len().min(INIT_KEY);
+        let mut key = [0; INIT_KEY];
+        key[..key_length].copy_from_slice(&bytes[..key_length]);
+        Init {
+            cipher,
+            count,
+            length,
+            nonce,
+            key,
+            key_length,
+        }
+    }
+
     /// The cipher agreed on: of an Init1 the first listed one that is enabled, of an Init2 the one that it names.
     #[inline]
     pub const fn cipher(&self) -> u16 {
@@ -75,7 +97,7 @@ impl Init {
 }
 
 /// The length of a TEP's public key, where Init messages are the library's.
-const fn key_length(tep: u8) -> Option<usize> {
+pub(crate) const fn key_length(tep: u8) -> Option<usize> {
     match Tep::of(tep) {
         Some(Tep::Curve25519) => Some(32),
         Some(Tep::Curve448) => Some(INIT_KEY),

@@ -7,6 +7,7 @@
 //! | the unit | [`LinkUnit`], a method for each call |
 //! | Init messages | [`init1_write`], [`init1_read`], [`init2_write`], [`init2_read`] |
 //! | frames | [`write_header`], [`read_header`], [`next_offset`], [`frame_id`], [`nonce`], [`write_plaintext`], [`read_plaintext`] |
+//! | a stream in pieces | [`Pieces`]: an Init message, then frames, cut anywhere |
 //! | generations | [`Generations`], a method for each step |
 //! | captures and diagnosis | [`find_status`], [`judge`], [`judge_plainly`] |
 //! | arguments as numbers and slices | [`untyped`] |
@@ -132,6 +133,7 @@ mod frame;
 mod generation;
 mod init;
 mod judge;
+mod pieces;
 mod reply;
 mod tep;
 mod unit;
@@ -147,6 +149,7 @@ pub use init::{
     INIT_LONGEST, INIT_NONCE,
 };
 pub use judge::{judge, judge_plainly, InHand, Judgement, Transcript};
+pub use pieces::{Fed, Item, Pieces, Stopped, GATHERED, NUMBERS};
 use reply::{read, Told};
 pub use reply::{Error, Outcome, Phase, Reason, Refusal, Reply, Role, Secret, Status, Way};
 pub use tep::Tep;

@@ -19,6 +19,7 @@ pub use crate::init::{
     read1 as init1_read, read2 as init2_read, write1 as init1_write, write2 as init2_write,
 };
 pub use crate::judge::{judge_of as judge, judge_plainly_of as judge_plainly};
+pub use crate::pieces::{feed, start_frames, start_init1, start_init2};
 
 /// As [`Offer`](crate::Offer).
 #[derive(Clone, Copy, PartialEq, Eq, Debug)]

@@ -6,12 +6,12 @@ mod driver;
 mod model;
 mod wrong;
 
-use binding::{Binding, Calls, Plainly};
+use binding::{Binding, Calls, Pieces, Plainly};
 use driver::calls::{Judging, Unit};
 use driver::counts::{Counts, LEAST};
 use driver::links::{Links, STRANGE};
 use driver::random::{calls, seed};
-use driver::{every, finder, frames, generations, init, isolation, judge, limits, places};
+use driver::{every, finder, frames, generations, init, isolation, judge, limits, pieces, places};
 use model::{Model, Wire};
 
 fn good<T>(outcome: Result<T, String>) -> T {
@@ -171,4 +171,31 @@ fn generations() {
     let counts = good(generations::compare(seed(), calls(), &Wire, &Calls));
     counts.print("generations");
     counts.demand_refusals(&[4, 13, 14, 15]);
+}
+
+/// Streams in pieces, an Init message and frames, good and damaged.
+#[test]
+fn streams_in_pieces() {
+    let counts = good(pieces::compare(seed(), calls(), &Wire, Pieces::new));
+    counts.print("streams in pieces");
+    counts.demand_refusals(&[8, 10, 11]);
+    counts.demand(["Init1 told", "Init2 told", "header told", "body told"]);
+}
+
+/// A few streams, cut at every two places.
+#[test]
+fn every_two_cuts() {
+    let counts = good(pieces::every_two_cuts(&Wire, Pieces::new));
+    counts.print("every two cuts");
+    counts.demand_refusals(&[11]);
+    counts.demand(["Init1 told", "Init2 told", "header told", "body told"]);
+}
+
+/// Readers of any numbers and bytes, and lent memory of any length.
+#[test]
+fn made_up_readers() {
+    let counts = good(pieces::made_up(seed(), calls() / 20, Pieces::of));
+    counts.print("made-up readers of pieces");
+    counts.demand_refusals(&[5, 8, 10, 11]);
+    counts.demand(["header told", "body told"]);
 }

@@ -6,11 +6,11 @@ use Rattle.console.proofs.run.Statement.{statement}
 use Rattle.console.proofs.run.Tie as tie
 
 abbrev Inv-loop : tie.InvT-loop
-Inv-loop marks₀ rows₀ doors₀ record₀ chunk₀ line₀ place₀ number₀ turns₀ marks rows doors «record» chunk line place number turns =
-    (length chunk ≡ 65536) × (length line ≡ 20001)
+Inv-loop marks₀ rows₀ doors₀ record₀ numbers₀ gathered₀ chunk₀ line₀ place₀ number₀ turns₀ marks rows doors «record» numbers gathered chunk line place number turns =
+    (length numbers ≡ 4) × ((length gathered ≡ 4608) × ((length chunk ≡ 65536) × (length line ≡ 20001)))
 
 abbrev μ-loop : tie.MeasureT-loop
-μ-loop marks₀ rows₀ doors₀ record₀ chunk₀ line₀ place₀ number₀ turns₀ marks rows doors «record» chunk line place number turns =
+μ-loop marks₀ rows₀ doors₀ record₀ numbers₀ gathered₀ chunk₀ line₀ place₀ number₀ turns₀ marks rows doors «record» numbers gathered chunk line place number turns =
     turns
 
 erase-requires : tie.Need-erase-requires Inv-loop μ-loop
@@ -40,20 +40,20 @@ slice-aggregate-advance-2 c = search needs
 advance-requires : tie.Need-advance-requires Inv-loop μ-loop
 advance-requires c κs = search needs
 
-wrapping-add-u64-requires : tie.Need-wrapping-add-u64-requires Inv-loop μ-loop
-wrapping-add-u64-requires c κs = search needs
+counted-requires : tie.Need-counted-requires Inv-loop μ-loop
+counted-requires c κs = search needs
 
-slice-aggregate-first : tie.Need-slice-aggregate-first Inv-loop μ-loop
-slice-aggregate-first c = search needs
+slice-aggregate-run-whole : tie.Need-slice-aggregate-run-whole Inv-loop μ-loop
+slice-aggregate-run-whole c = search needs
 
-first-requires : tie.Need-first-requires Inv-loop μ-loop
-first-requires c κs = search needs
+slice-aggregate-run-whole-2 : tie.Need-slice-aggregate-run-whole-2 Inv-loop μ-loop
+slice-aggregate-run-whole-2 c = search needs
 
-without-return-requires : tie.Need-without-return-requires Inv-loop μ-loop
-without-return-requires c κs = search needs
+slice-aggregate-run-whole-3 : tie.Need-slice-aggregate-run-whole-3 Inv-loop μ-loop
+slice-aggregate-run-whole-3 c = search needs
 
-run-line-requires : tie.Need-run-line-requires Inv-loop μ-loop
-run-line-requires c κs = search needs
+run-whole-requires : tie.Need-run-whole-requires Inv-loop μ-loop
+run-whole-requires c κs = search needs
 
 failed-requires : tie.Need-failed-requires Inv-loop μ-loop
 failed-requires c κs = search needs
@@ -66,12 +66,6 @@ loop-less c = search needs
 
 loop-again : tie.Need-loop-again Inv-loop μ-loop
 loop-again c = search needs
-
-loop-less-2 : tie.Need-loop-less-2 Inv-loop μ-loop
-loop-less-2 c = search needs
-
-loop-again-2 : tie.Need-loop-again-2 Inv-loop μ-loop
-loop-again-2 c = search needs
 
 returns-3 : tie.Need-returns-3 Inv-loop μ-loop
 returns-3 c = search needs
@@ -91,15 +85,13 @@ run-spec =
     slice-aggregate-advance
     slice-aggregate-advance-2
     advance-requires
-    wrapping-add-u64-requires
-    slice-aggregate-first
-    first-requires
-    without-return-requires
-    run-line-requires
+    counted-requires
+    slice-aggregate-run-whole
+    slice-aggregate-run-whole-2
+    slice-aggregate-run-whole-3
+    run-whole-requires
     failed-requires
     returns-2
     loop-less
     loop-again
-    loop-less-2
-    loop-again-2
     returns-3)

@@ -7,6 +7,7 @@ pub mod frame;
 pub mod generation;
 pub mod init;
 pub mod judge;
+pub mod pieces;
 pub mod suboptions;
 pub mod unit;
 

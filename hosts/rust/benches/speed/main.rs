@@ -1,4 +1,4 @@
-//! How fast the library is beside plain Rust, on the same inputs: the judge, the unit's calls, Init messages, frames and generations. Prints tables; it
+//! How fast the library is beside plain Rust, on the same inputs: the judge, the unit's calls, Init messages, frames, generations and streams in pieces. Prints tables; it
 //! is no test. Every time is the best of many short rounds, since other work may run on the machine.
 
 // The library's exports as they are, without the crate's tests of their numbers; all `unsafe` is there.
@@ -23,6 +23,7 @@ mod common;
 mod plain;
 
 mod judge;
+mod pieces;
 mod timing;
 mod unit;
 mod wire;
@@ -35,4 +36,5 @@ fn main() {
     judge::run();
     unit::run();
     wire::run();
+    pieces::run();
 }

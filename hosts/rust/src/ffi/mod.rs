@@ -10,6 +10,7 @@ pub(crate) mod frame;
 pub(crate) mod generation;
 pub(crate) mod init;
 pub(crate) mod judge;
+pub(crate) mod pieces;
 mod unit;
 
 use core::arch::asm;
@@ -50,7 +51,7 @@ fn abi() {
     // SAFETY: the instruction changes nothing and reads nothing.
     unsafe {
         asm!(
-            "nopl door_link_abi_5@PLT(%rip)",
+            "nopl door_link_abi_6@PLT(%rip)",
             options(att_syntax, nomem, nostack, preserves_flags)
         )
     };

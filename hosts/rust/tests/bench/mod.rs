@@ -3,6 +3,8 @@
 #[path = "../../benches/plain/mod.rs"]
 pub mod plain;
 
+mod pieces;
+
 use crate::driver::calls::*;
 use crate::driver::links::Links;
 use crate::driver::random::{calls, seed};

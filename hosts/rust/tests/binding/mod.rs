@@ -1,11 +1,13 @@
 //! The library behind the driver's traits, reached through the crate's safe calls alone.
 
+mod pieces;
 mod wire;
 
 use door_link::{self as link, untyped, Error, LinkUnit, Outcome, Phase, Reason, Role, Tep, Way};
 
 use crate::driver::calls::{Cause, PhaseNow, Reply, Unit};
 
+pub use pieces::Pieces;
 pub use wire::{Calls, Plainly};
 
 /// The number that stands for a reply that could not be read; the model never gives it.

@@ -14,6 +14,7 @@ pub mod limits;
 pub mod links;
 pub mod list;
 pub mod options;
+pub mod pieces;
 pub mod places;
 pub mod random;
 pub mod seen;

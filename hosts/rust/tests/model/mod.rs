@@ -7,6 +7,7 @@ pub mod frames;
 pub mod generations;
 pub mod init;
 pub mod judge;
+pub mod pieces;
 pub mod records;
 pub mod suboptions;
 pub mod unit;

@@ -1,5 +1,6 @@
 //! Units that are wrong in one thing each: the driver must see it.
 
+mod pieces;
 mod wire;
 
 use crate::driver::calls::{Cause, DoorRecords, PhaseNow, Reply, Unit};

@@ -1,0 +1,2 @@
+-- The arguments of the exported starts.
+pub mod Arguments

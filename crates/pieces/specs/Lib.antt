@@ -1,0 +1,2 @@
+-- Laws of the stages that a piece goes to.
+pub mod Stages

@@ -1,0 +1,2 @@
+-- The number and the position of a refusal.
+pub mod Refused

@@ -1,0 +1,2 @@
+-- Laws of the byte that settles an Init message.
+pub mod Settling
