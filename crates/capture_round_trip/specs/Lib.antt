@@ -1,0 +1,5 @@
+-- Round trips of captures.
+pub mod Canonical
+pub mod ReadBack
+pub mod Written
+pub mod WrittenAgain

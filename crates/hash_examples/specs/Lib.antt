@@ -1,0 +1,2 @@
+-- Worked examples of the standards, by computing.
+pub mod Examples

@@ -1,0 +1,2 @@
+-- An expansion in steps.
+pub mod Expanding

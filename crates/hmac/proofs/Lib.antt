@@ -1,0 +1,3 @@
+-- HMAC: the loops over a block, and the two hashes.
+pub mod Blocks
+pub mod Macs

@@ -1,0 +1,2 @@
+-- The running hash: what its steps keep.
+pub mod Holding

@@ -1,0 +1,2 @@
+-- The running hash.
+pub mod Running

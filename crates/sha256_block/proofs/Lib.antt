@@ -1,0 +1,2 @@
+-- The message schedule and the rounds.
+pub mod Schedule

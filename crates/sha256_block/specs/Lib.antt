@@ -1,0 +1,2 @@
+-- A block at a place of a message.
+pub mod Blocks
