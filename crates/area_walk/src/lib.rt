@@ -1,10 +1,12 @@
 // The walk of a TCP option area: where its ENO option stands, or why there is none.
+#![tactic(auto)]
+
 ghost use Rattle.std.specs.Prelude.{◌≡◌};
 ghost use Rattle.eno.specs.Area.{option_at};
 ghost use Rattle.area_walk.specs.Answers.{piece_of, Locates};
 
 // What stands at a place of an option area.
-#[derive(Drop)]
+#[derive(Clone, Copy)]
 enum OptionAt {
     End,
     Fault { kind: u8 },
@@ -40,7 +42,7 @@ fn option_at(area: &[u8], i: usize) -> OptionAt
 }
 
 // Where the ENO option of an area stands, or why there is none.
-#[derive(Drop)]
+#[derive(Clone, Copy)]
 pub enum Located {
     Refused,
     Unreadable { place: u8, kind: u8 },

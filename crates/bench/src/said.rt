@@ -1,5 +1,5 @@
 // What a call answers: a form, by the place where it stands in the text of `say::put_answer`, and the numbers that it shows in turn.
-#[derive(Drop)]
+#[derive(Clone, Copy)]
 pub struct Answer {
     pub form: usize,
     pub a: u64,

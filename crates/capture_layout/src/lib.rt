@@ -1,7 +1,7 @@
 // Captures of handshakes: what the calls on them answer. The definitions and theorems are in specs/; the crates above have the calls.
 
 // Why a capture is refused: document 02's 18, 19, 20, and 1, 2 and 21.
-#[derive(Drop)]
+#[derive(Clone, Copy)]
 pub enum CaptureRefusal {
     Size,
     PastEnd,
@@ -12,14 +12,14 @@ pub enum CaptureRefusal {
 }
 
 // What the checker says: sound, with the number of handshakes.
-#[derive(Drop)]
+#[derive(Clone, Copy)]
 pub enum CaptureCheck {
     Sound(usize),
     Refused(CaptureRefusal),
 }
 
 // What the writer says: how many bytes the file has; no room where the lent buffer is shorter than that.
-#[derive(Drop)]
+#[derive(Clone, Copy)]
 pub enum CaptureWritten {
     Wrote(usize),
     Refused(CaptureRefusal),

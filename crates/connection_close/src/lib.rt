@@ -7,7 +7,7 @@ ghost use Rattle.door.specs.Answers.{reply_of, outcome_as};
 use door::{Door, Reply};
 
 // The door that is closed, and what close replies.
-#[derive(Drop)]
+#[derive(Clone, Copy)]
 pub struct Closed {
     pub door: Door,
     pub reply: Reply,

@@ -4,14 +4,14 @@ ghost use Rattle.wire.specs.Bytes.{pasted};
 ghost use Rattle.eno.specs.Judge.{of_a, of_b};
 ghost use Rattle.door.specs.Door.{opened, phase_of};
 ghost use Rattle.door.specs.Outcome.{keep};
-ghost use Rattle.door.specs.Receive.{result};
+ghost use Rattle.door.specs.Receive.{result as door_result};
 ghost use Rattle.door.specs.Answers.{reply_of, outcome_as, secret_beside};
 
 use door::{Door, Phase, Refusal, Reply};
 use eno::InHand;
 
 // What result replies, and the secret beside it: zeros where none is given.
-#[derive(Drop)]
+#[derive(Clone, Copy)]
 pub struct Resulted {
     pub reply: Reply,
     pub secret: [u8; 32],
@@ -19,7 +19,7 @@ pub struct Resulted {
 
 // The secret of the resumed session; zeros if it is not resumed.
 fn secret_of(resumed: bool, hand: InHand) -> [u8; 32]
-    ensures* { λ r. ⌜ r ≡ cond resumed hand.session.secret (replicate 32 0) ⌝ }
+    ensures { result ≡ cond resumed hand.session.secret (replicate 32 0) }
 {
     if resumed {
         let session = hand.session;
@@ -32,7 +32,7 @@ fn secret_of(resumed: bool, hand: InHand) -> [u8; 32]
 // Writes A's option followed by B's.
 fn write_transcript<'a>(out: &mut [u8], own: &'a [u8], peer: &'a [u8], own_is_b: bool)
     requires { length own.now + length peer.now ≤ length out.old }
-    ensures* { λ _. ⌜ out.new ≡ pasted out.old 0 (of_a own_is_b own.now peer.now ++ of_b own_is_b own.now peer.now) ⌝ }
+    ensures { out.new ≡ pasted out.old 0 (of_a own_is_b own.now peer.now ++ of_b own_is_b own.now peer.now) }
 {
     let a = judgement::host_a_option(own, peer, own_is_b);
     let b = judgement::host_b_option(own, peer, own_is_b);
@@ -44,7 +44,7 @@ fn write_transcript<'a>(out: &mut [u8], own: &'a [u8], peer: &'a [u8], own_is_b:
 // In Open the transcript is written.
 fn open_result(door: Door, out: &mut [u8]) -> Resulted
     requires { phase_of door.phase ≡ opened }
-    ensures* { λ r. ⌜ (outcome_as (reply_of r.reply r.secret) out.new door keep ≡ result door out.old) × (r.secret ≡ secret_beside (result door out.old).reply) ⌝ }
+    ensures { (outcome_as (reply_of result.reply result.secret) out.new door keep ≡ door_result door out.old) × (result.secret ≡ secret_beside (door_result door out.old).reply) }
 {
     let own = door.own;
     let peer = door.peer;
@@ -74,7 +74,7 @@ fn open_result(door: Door, out: &mut [u8]) -> Resulted
 
 // What the connection came to.
 pub fn result(door: Door, out: &mut [u8]) -> Resulted
-    ensures* { λ r. ⌜ (outcome_as (reply_of r.reply r.secret) out.new door keep ≡ result door out.old) × (r.secret ≡ secret_beside (result door out.old).reply) ⌝ }
+    ensures { (outcome_as (reply_of result.reply result.secret) out.new door keep ≡ door_result door out.old) × (result.secret ≡ secret_beside (door_result door out.old).reply) }
 {
     let cause = door.cause;
     let phase = door_data::phase_of(door.phase);

@@ -5,7 +5,7 @@ use answer_numbers::by_generation;
 use generation::{GenerationRecord, GenerationReply, GenerationStep};
 
 // The record after a call, and where the reply's words end.
-#[derive(Drop)]
+#[derive(Clone, Copy)]
 pub struct Called {
     pub record: GenerationRecord,
     pub end: usize,

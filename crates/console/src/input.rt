@@ -3,7 +3,7 @@ use crate::output::may_repeat;
 use text_lines::{Collected, collect};
 
 // Where reading stands.
-#[derive(Drop)]
+#[derive(Clone, Copy)]
 pub struct Place {
     // How much of the chunk was read, and how much of that is used.
     pub filled: usize,

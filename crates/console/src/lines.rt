@@ -11,7 +11,7 @@ const LONGEST: usize = 20000;
 const HELP: usize = 31;
 
 // What a line asks, or what is wrong with it. A form is its number in the list of main.
-#[derive(Drop)]
+#[derive(Clone, Copy)]
 pub enum Asked {
     // An empty line or a comment.
     Nothing,

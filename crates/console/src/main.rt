@@ -25,7 +25,7 @@ use link_unit::{DOORS, PLACE, ROW, ROWS, WORDS};
 const TURNS: u64 = 0x8000_0000_0000_0000;
 
 // The generation record after a line, and whether the line's reply was written.
-#[derive(Drop)]
+#[derive(Clone, Copy)]
 struct Ran {
     record: GenerationRecord,
     written: bool,

@@ -12,7 +12,7 @@ const NOWHERE: usize = 0xffff_ffff_ffff_ffff;
 const MOST: usize = 8;
 
 // What became of a line's words.
-#[derive(Drop)]
+#[derive(Clone, Copy)]
 pub enum Read {
     // All are right; of the last, where it is BUF, the bytes.
     All { last: u64 },
@@ -23,7 +23,7 @@ pub enum Read {
 }
 
 // The ciphers that are enabled, if a list has no other.
-#[derive(Drop)]
+#[derive(Clone, Copy)]
 pub enum Listed {
     Known(Enabled),
     Other,

@@ -57,15 +57,15 @@ answer_agrees aware mandatory area list nonce held c long fit reason choice whol
     short : leb (length nonce) 8 ≡ true
     short = (terms aware mandatory list nonce fit).1
 
-    Agrees : SentWell (syn_option area) t → IsTep t → Option SessionRecord → Type 0
-    Agrees w i = Agrees aware mandatory area nonce t i short long ok w
+    agrees : SentWell (syn_option area) t → IsTep t → Option SessionRecord → Type 0
+    agrees w i = Agrees aware mandatory area nonce t i short long ok w
 
     go : Chosen (syn_option area) list held c → judge mandatory (record_at held c.at) (answer_option aware nonce held c) area
         ≡ encrypt 1 (answer_door aware mandatory area nonce held c).tep (way_if (answer_door aware mandatory area nonce held c).resumed) (syn_option area ++ answer_option aware nonce held c)
-    go (freshly l w none_there) = subst (Agrees w (tep_of l)) (sym none_there) (fresh_agrees aware mandatory area nonce t (tep_of l) short long ok w)
+    go (freshly l w none_there) = subst (agrees w (tep_of l)) (sym none_there) (fresh_agrees aware mandatory area nonce t (tep_of l) short long ok w)
     go (resuming l w resumption within r is there e expected) =
         let long18 : length r.identifier ≡ 18 = subst (λ (q : SessionRecord). length q.identifier ≡ 18) is (every_at (λ q. length q.identifier ≡ 18) held c.at whole within) in
-        subst (Agrees w (tep_of l)) (sym there) (resumed_agrees aware mandatory area nonce t (tep_of l) short long ok w r e long18 resumption expected)
+        subst (agrees w (tep_of l)) (sym there) (resumed_agrees aware mandatory area nonce t (tep_of l) short long ok w r e long18 resumption expected)
 
 -- an option that is kept is read back
 pub kept_own : (o : List ℕ) → length o ≤ 40 → take (min (length o) 40) (kept o) ≡ o

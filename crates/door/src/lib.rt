@@ -1,4 +1,6 @@
 // One door: what it keeps, and what its calls answer. The definitions and theorems are in specs/; the crates above have the calls.
+#![tactic(auto)]
+
 use eno::{Cause, InHand, SessionRecord};
 
 // How many records a door may hold.
@@ -6,7 +8,7 @@ pub const EACH: usize = 4;
 
 // A door's own data, in plain numbers, so that a host can hold it.
 #[repr(C)]
-#[derive(Drop)]
+#[derive(Clone, Copy)]
 pub struct Door {
     // 0 Idle, 1 Offered, 2 Crossed, 3 Answered, 4 Open, 5 Plain; any other reads as Idle.
     pub phase: u8,
@@ -26,7 +28,7 @@ pub struct Door {
 }
 
 // What a door's calls see: its own data and the records that it holds, oldest first; a count above the most reads as the most.
-#[derive(Drop)]
+#[derive(Clone, Copy)]
 pub struct View {
     pub door: Door,
     pub count: u8,
@@ -34,7 +36,7 @@ pub struct View {
 }
 
 // What a call does with the pool: the record that is added stands beside it.
-#[derive(Drop)]
+#[derive(Clone, Copy)]
 pub enum Change {
     Keep,
     Add,
@@ -42,7 +44,7 @@ pub enum Change {
 }
 
 // Why a call is refused.
-#[derive(Drop)]
+#[derive(Clone, Copy)]
 pub enum Refusal {
     NoDoor,
     AreaTooLong,
@@ -54,7 +56,7 @@ pub enum Refusal {
     NotHeld,
 }
 
-#[derive(Drop)]
+#[derive(Clone, Copy)]
 pub enum Phase {
     Idle,
     Offered,
@@ -65,7 +67,7 @@ pub enum Phase {
 }
 
 // What a call replies.
-#[derive(Drop)]
+#[derive(Clone, Copy)]
 pub enum Reply {
     Refused(Refusal),
     Written(usize),

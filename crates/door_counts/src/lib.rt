@@ -1,4 +1,6 @@
 // How many records a door holds, by its count.
+#![tactic(auto)]
+
 ghost use Rattle.std.specs.Prelude.{◌≡◌, min};
 ghost use Rattle.door.specs.Numbers.{each_n};
 ghost use Rattle.door.specs.Door.{Counts};

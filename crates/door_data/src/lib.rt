@@ -1,4 +1,6 @@
 // What a door's own data say, and an option as a door keeps it. Total for every number and every option.
+#![tactic(auto)]
+
 ghost use Rattle.std.specs.Prelude.{◌≡◌, ◌≤◌, min};
 ghost use Rattle.door.specs.Door.{phase_of};
 ghost use Rattle.door.specs.Offer.{is_idle};

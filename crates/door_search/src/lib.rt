@@ -8,7 +8,7 @@ use door::View;
 use eno::SessionRecord;
 
 // What is looked for, by the bytes that stand beside it: a record whose TEP they list; one of a TEP that expects the half which stands in them from a place on; one of a TEP whose identifier they are.
-#[derive(Drop)]
+#[derive(Clone, Copy)]
 pub enum Sought {
     Listed,
     Expecting { tep: u8, at: usize },

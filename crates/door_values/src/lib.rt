@@ -1,4 +1,6 @@
 // The values that a door's calls share: the empty record, nothing in hand, a door as it is made, and a door in Plain.
+#![tactic(auto)]
+
 ghost use Rattle.std.specs.Prelude.{◌≡◌};
 ghost use Rattle.door.specs.Door.{no_session, empty_hand, idle_door};
 ghost use Rattle.door.specs.Answer.{plain_door};

@@ -1,9 +1,11 @@
 // What the crates over TCP-ENO options share: the TEPs that the unit knows, and the session record.
+#![tactic(auto)]
+
 ghost use Rattle.std.specs.Prelude.{◌≡◌};
 ghost use Rattle.eno.specs.Tep.{tep_of};
 
 // A TCP encryption protocol (TEP), by its name without the bit v.
-#[derive(Drop)]
+#[derive(Clone, Copy)]
 pub struct Tep {
     pub name: u8,
     // Whether the unit knows it.
@@ -66,7 +68,7 @@ impl Tep {
 
 // A session that may be resumed.
 #[repr(C)]
-#[derive(Drop)]
+#[derive(Clone, Copy)]
 pub struct SessionRecord {
     pub tep: u8,
     // 0 where this end was host A, else host B.
@@ -77,7 +79,7 @@ pub struct SessionRecord {
 
 // The session that a connection proposes to resume, if any ("the record in hand").
 #[repr(C)]
-#[derive(Drop)]
+#[derive(Clone, Copy)]
 pub struct InHand {
     pub held: bool,
     pub session: SessionRecord,
@@ -85,7 +87,7 @@ pub struct InHand {
 
 // Why a connection is plain TCP: document 01's reason and, of an unreadable area (1), where the option stands that makes it so, and its kind; else zeros.
 #[repr(C)]
-#[derive(Drop)]
+#[derive(Clone, Copy)]
 pub struct Cause {
     pub reason: u8,
     pub place: u8,

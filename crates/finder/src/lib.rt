@@ -1,4 +1,6 @@
 // The finder: the ENO option of a TCP option area, as a part of that area.
+#![tactic(auto)]
+
 ghost use Rattle.std.specs.Prelude.{◌≡◌, ◌+◌};
 ghost use Rattle.eno.specs.Area.{finding, part_of, status};
 ghost use Rattle.finder.specs.Answers.{status_of, start_of};
@@ -17,7 +19,7 @@ pub fn find_option(area: &[u8], syn: bool) -> &[u8]
 }
 
 // What `find_option` found.
-#[derive(Drop)]
+#[derive(Clone, Copy)]
 pub enum FindStatus {
     Found,
     Nothing,

@@ -1,14 +1,15 @@
 // Encryption frames: what the calls on them answer. The definitions and theorems are in specs/; the crates above have the calls.
+#![tactic(auto)]
 
 // Where the next frame begins.
-#[derive(Drop)]
+#[derive(Clone, Copy)]
 pub enum NextOffset {
     Next(u64),
     NoFrame,
 }
 
 // What writing a header answers: where the next frame begins.
-#[derive(Drop)]
+#[derive(Clone, Copy)]
 pub enum HeaderWritten {
     Next(u64),
     NoRoom,
@@ -16,7 +17,7 @@ pub enum HeaderWritten {
 }
 
 // A header as received.
-#[derive(Drop)]
+#[derive(Clone, Copy)]
 pub enum HeaderSays {
     Header { rekey: bool, clen: u16, next: u64 },
     Incomplete,
@@ -24,27 +25,27 @@ pub enum HeaderSays {
 }
 
 // What reading a header answers: the associated data are its three bytes as received, zeros beside a refusal.
-#[derive(Drop)]
+#[derive(Clone, Copy)]
 pub struct HeaderRead {
     pub says: HeaderSays,
     pub associated: [u8; 3],
 }
 
-#[derive(Drop)]
+#[derive(Clone, Copy)]
 pub enum NonceSays {
     Made,
     OtherLength,
 }
 
 // A frame's nonce, zeros beside a refusal.
-#[derive(Drop)]
+#[derive(Clone, Copy)]
 pub struct NonceMade {
     pub says: NonceSays,
     pub nonce: [u8; 12],
 }
 
 // What writing a plaintext answers: how many bytes it has.
-#[derive(Drop)]
+#[derive(Clone, Copy)]
 pub enum PlaintextWritten {
     Wrote(usize),
     NoRoom,
@@ -52,7 +53,7 @@ pub enum PlaintextWritten {
 }
 
 // A plaintext: its flags, the urgent field (0 without URGp) and where its data begin.
-#[derive(Drop)]
+#[derive(Clone, Copy)]
 pub enum PlaintextRead {
     Plaintext {
         fin: bool,

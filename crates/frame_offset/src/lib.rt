@@ -1,4 +1,6 @@
 // The offset of the next frame.
+#![tactic(auto)]
+
 ghost use Rattle.std.specs.Prelude.{◌≡◌};
 ghost use Rattle.frame_layout.specs.Calls.{Ask, outcome};
 ghost use Rattle.frame_layout.specs.Answers.{next_told};

@@ -1,8 +1,9 @@
 // Rekeying: the generation record of a connection, and what its steps answer. The definitions and theorems are in specs/; the crates above have the steps.
+#![tactic(auto)]
 
 // Local, remote, last used in sending, and whether FINp was sent.
 #[repr(C)]
-#[derive(Drop)]
+#[derive(Clone, Copy)]
 pub struct GenerationRecord {
     pub local: u16,
     pub remote: u16,
@@ -11,7 +12,7 @@ pub struct GenerationRecord {
 }
 
 // What a step answers.
-#[derive(Drop)]
+#[derive(Clone, Copy)]
 pub enum GenerationReply {
     // A frame is sent under this generation, with rekey or without.
     Sent { generation: u16, rekey: bool },
@@ -24,7 +25,7 @@ pub enum GenerationReply {
 }
 
 // A step: the record afterwards, and the answer.
-#[derive(Drop)]
+#[derive(Clone, Copy)]
 pub struct GenerationStep {
     pub next: GenerationRecord,
     pub reply: GenerationReply,

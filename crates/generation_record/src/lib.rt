@@ -1,4 +1,6 @@
 // The generation record of a new connection, and whether a rekey frame is owed.
+#![tactic(auto)]
+
 ghost use Rattle.std.specs.Prelude.{◌≡◌};
 ghost use Rattle.generation.specs.Steps.{first, owed};
 

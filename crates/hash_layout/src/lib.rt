@@ -1,7 +1,8 @@
 // SHA-256, HMAC and HKDF: the words of a hash value, and what the calls on a hash answer. The definitions and theorems are in specs/; the crates above have the calls.
+#![tactic(auto)]
 
 // The working variables of FIPS 180-4, 6.2.2, and a hash value H.
-#[derive(Drop)]
+#[derive(Clone, Copy)]
 pub struct Words {
     pub a: u32,
     pub b: u32,
@@ -13,14 +14,14 @@ pub struct Words {
     pub h: u32,
 }
 
-#[derive(Drop)]
+#[derive(Clone, Copy)]
 pub enum HashSays {
     Made,
     TooLong,
 }
 
 // A hash or a MAC, zeros beside a refusal.
-#[derive(Drop)]
+#[derive(Clone, Copy)]
 pub struct Hashed {
     pub says: HashSays,
     pub bytes: [u8; 32],

@@ -2,7 +2,7 @@
 
 // What reading a header gives; all but kind and number are zeros beside a refusal.
 #[repr(C)]
-#[derive(Drop)]
+#[derive(Clone, Copy)]
 pub struct HeaderNumbers {
     // The offset after the frame, or the refusal's number.
     pub number: usize,
@@ -16,14 +16,14 @@ pub struct HeaderNumbers {
 }
 
 #[repr(C)]
-#[derive(Drop)]
+#[derive(Clone, Copy)]
 pub struct FrameId {
     pub bytes: [u8; 12],
 }
 
 // A frame's nonce, zeros beside a refusal.
 #[repr(C)]
-#[derive(Drop)]
+#[derive(Clone, Copy)]
 pub struct NonceNumbers {
     // 0, or the refusal's number.
     pub number: usize,
@@ -34,7 +34,7 @@ pub struct NonceNumbers {
 
 // What reading a plaintext gives.
 #[repr(C)]
-#[derive(Drop)]
+#[derive(Clone, Copy)]
 pub struct PlaintextNumbers {
     // Where the data begin, or the refusal's number.
     pub number: usize,

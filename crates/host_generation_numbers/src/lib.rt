@@ -8,7 +8,7 @@ use host_reply::flag_number;
 
 // A step: the record afterwards, and the reply.
 #[repr(C)]
-#[derive(Drop)]
+#[derive(Clone, Copy)]
 pub struct GenerationNumbers {
     pub next: GenerationRecord,
     // The generation of the frame, or the refusal's number.

@@ -8,7 +8,7 @@ use init::{InitAnswer, InitRead, InitWritten};
 
 // What reading an Init message gives; all but kind and number are zeros beside a refusal.
 #[repr(C)]
-#[derive(Drop)]
+#[derive(Clone, Copy)]
 pub struct InitNumbers {
     // The length of the whole message, or the refusal's number.
     pub number: usize,

@@ -8,7 +8,7 @@ use judgement::Verdict;
 
 // What the judge gives back; the transcript is zeros after its own length.
 #[repr(C)]
-#[derive(Drop)]
+#[derive(Clone, Copy)]
 pub struct JudgementNumbers {
     pub reply: ReplyNumbers,
     pub transcript: [u8; 80],

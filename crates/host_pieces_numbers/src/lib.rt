@@ -8,7 +8,7 @@ use pieces_layout::{Fed, PieceSays, PieceStart};
 
 // What feeding a piece gives; a number that a kind does not have is 0.
 #[repr(C)]
-#[derive(Drop)]
+#[derive(Clone, Copy)]
 pub struct FedNumbers {
     // The refusal's number, the length of an Init message, the offset after a frame, or where a body ends.
     pub number: u64,

@@ -6,7 +6,7 @@ use eno::Cause;
 
 // A reply in plain numbers; a number that a kind of reply does not have is 0.
 #[repr(C)]
-#[derive(Drop)]
+#[derive(Clone, Copy)]
 pub struct ReplyNumbers {
     // The refusal's number, the bytes written, the reason for plain TCP, the phase, the bytes of the transcript, the records held, or the offset after a frame.
     pub number: usize,

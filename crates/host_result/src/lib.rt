@@ -1,5 +1,5 @@
 // resend and result, exported: over arrays that the host lends, with any door number, any bytes and any content of the unit.
-ghost use Rattle.door.specs.Calls.{resend, result};
+ghost use Rattle.door.specs.Calls.{resend, result as ask_result};
 ghost use Rattle.unit.specs.Run.{on, step};
 ghost use Rattle.unit_bytes.specs.Content.{unit_in};
 ghost use Rattle.host_step.specs.Replies.{Gives, GivesResult};
@@ -18,7 +18,7 @@ pub extern "C" fn door_link_resend(
     door: usize,
     out: &mut [u8],
 ) -> ReplyNumbers
-    ensures* { λ r. ⌜ Gives r out.new (unit_in marks.now rows.now doors.now) (step (unit_in marks.now rows.now doors.now) (on door (resend out.old))) ⌝ }
+    ensures { Gives result out.new (unit_in marks.now rows.now doors.now) (step (unit_in marks.now rows.now doors.now) (on door (resend out.old))) }
 {
     let told = link_unit::resend(marks, rows, doors, door, out);
     reply_numbers(told)
@@ -33,7 +33,7 @@ pub extern "C" fn door_link_result(
     door: usize,
     out: &mut [u8],
 ) -> LinkResult
-    ensures* { λ r. ⌜ GivesResult r out.new (unit_in marks.now rows.now doors.now) (step (unit_in marks.now rows.now doors.now) (on door (result out.old))) ⌝ }
+    ensures { GivesResult result out.new (unit_in marks.now rows.now doors.now) (step (unit_in marks.now rows.now doors.now) (on door (ask_result out.old))) }
 {
     let told = link_unit::result(marks, rows, doors, door, out);
     let given = told.reply;

@@ -3,7 +3,7 @@ use host_reply::ReplyNumbers;
 
 // What a result gives back; the secret is zeros unless a session is resumed.
 #[repr(C)]
-#[derive(Drop)]
+#[derive(Clone, Copy)]
 pub struct LinkResult {
     pub reply: ReplyNumbers,
     pub secret: [u8; 32],

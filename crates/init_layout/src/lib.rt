@@ -1,7 +1,8 @@
 // Init1 and Init2: the ciphers that an end has enabled, and what writers and readers answer. The definitions and theorems are in specs/; the crates above have the calls.
+#![tactic(auto)]
 
 // The ciphers that this end has enabled.
-#[derive(Drop)]
+#[derive(Clone, Copy)]
 pub struct Enabled {
     // 0001
     pub aes128: bool,
@@ -12,7 +13,7 @@ pub struct Enabled {
 }
 
 // What a writer answers.
-#[derive(Drop)]
+#[derive(Clone, Copy)]
 pub enum InitWritten {
     Written(usize),
     Unfit,
@@ -20,7 +21,7 @@ pub enum InitWritten {
 }
 
 // What a reader answers.
-#[derive(Drop)]
+#[derive(Clone, Copy)]
 pub enum InitAnswer {
     Read {
         cipher: u16,
@@ -34,7 +35,7 @@ pub enum InitAnswer {
 }
 
 // The answer, and beside it the nonce and the key, the key with zeros up to 56 bytes; zeros beside a refusal.
-#[derive(Drop)]
+#[derive(Clone, Copy)]
 pub struct InitRead {
     pub answer: InitAnswer,
     pub nonce: [u8; 32],

@@ -1,4 +1,6 @@
 // Whether a cipher is in a list.
+#![tactic(auto)]
+
 ghost use Rattle.std.specs.Prelude.{◌≡◌, ◌<◌};
 ghost use Rattle.init_layout.specs.Reading.{in_init1};
 

@@ -1,4 +1,6 @@
 // How the bytes at hand stand, for a magic and for fields that end at a place.
+#![tactic(auto)]
+
 ghost use Rattle.std.specs.Prelude.{◌≡◌};
 ghost use Rattle.init_layout.specs.Reading.{agrees, standing};
 ghost use Rattle.init_steps.specs.Answers.{standing_in};

@@ -1,11 +1,13 @@
 // Steps of the Init readers: what they answer, how long a key is, and how many ciphers the bytes at hand name.
+#![tactic(auto)]
+
 ghost use Rattle.std.specs.Prelude.{◌≡◌, ◌≤◌, ◌<◌, get_or};
 ghost use Rattle.eno.specs.Tep.{key_length};
 
 use eno::Tep;
 
 // How the bytes at hand stand.
-#[derive(Drop)]
+#[derive(Clone, Copy)]
 pub enum Progress {
     Unreadable,
     Incomplete,
@@ -13,7 +15,7 @@ pub enum Progress {
 }
 
 // The cipher that is taken, if any.
-#[derive(Drop)]
+#[derive(Clone, Copy)]
 pub enum Choice {
     Took(u16),
     Nothing,

@@ -1,4 +1,6 @@
 // Whether one of the ciphers of an Init is 0000, as far as the bytes at hand go.
+#![tactic(auto)]
+
 ghost use Rattle.std.specs.Prelude.{◌≡◌, ◌<◌};
 ghost use Rattle.init_layout.specs.Reading.{void_from};
 

@@ -1,4 +1,6 @@
 // The quick way to the judgement of two options: by their summaries, the TEP that is valid with the largest start, and the byte before that start.
+#![tactic(auto)]
+
 ghost use Rattle.std.specs.Prelude.{◌≡◌};
 ghost use Rattle.judge_quick.specs.Quick.{byte_before};
 

@@ -1,4 +1,6 @@
 // What a judge says of two option areas: the verdict and the transcript, why a connection is plain TCP, and which of two options is host A's and which host B's.
+#![tactic(auto)]
+
 ghost use Rattle.std.specs.Prelude.{◌≡◌, ◌&&◌, not, cond};
 ghost use Rattle.eno.specs.Judge.{of_a, of_b};
 ghost use Rattle.eno.specs.Cause.{numbered};
@@ -7,7 +9,7 @@ ghost use Rattle.judgement.specs.Answers.{cause_of, without_transcript};
 use eno::Cause;
 
 // Why a connection is plain TCP.
-#[derive(Drop)]
+#[derive(Clone, Copy)]
 pub enum Reason {
     // The option that makes the area unreadable: where it begins, and its kind.
     Unreadable { place: u8, kind: u8 },
@@ -49,7 +51,7 @@ pub fn cause_of(reason: Reason) -> Cause
     }
 }
 
-#[derive(Drop)]
+#[derive(Clone, Copy)]
 pub enum Verdict {
     Refused,
     Plain(Reason),
@@ -57,7 +59,7 @@ pub enum Verdict {
 }
 
 // The verdict, and the transcript in the first `length` bytes.
-#[derive(Drop)]
+#[derive(Clone, Copy)]
 pub struct Judgement {
     pub verdict: Verdict,
     pub length: usize,

@@ -16,7 +16,7 @@ pub const KEY_B: u8 = 0x05;
 pub const RESUME: u8 = 0x06;
 
 // An AEAD cipher by its number on the wire.
-#[derive(Drop)]
+#[derive(Clone, Copy)]
 pub struct Cipher {
     pub number: u16,
     // Whether the schedule knows it.
@@ -69,7 +69,7 @@ impl Cipher {
 }
 
 // What a call says.
-#[derive(Drop)]
+#[derive(Clone, Copy)]
 pub enum KeySays {
     Made,
     Unfit,
@@ -77,14 +77,14 @@ pub enum KeySays {
 }
 
 // A secret or a master key, zeros beside a refusal.
-#[derive(Drop)]
+#[derive(Clone, Copy)]
 pub struct KeyMade {
     pub says: KeySays,
     pub bytes: [u8; 32],
 }
 
 // What one host encrypts with: the cipher's key, its length, zeros behind it, and the fixed nonce; zeros beside a refusal.
-#[derive(Drop)]
+#[derive(Clone, Copy)]
 pub struct TrafficKeys {
     pub says: KeySays,
     pub length: usize,
@@ -93,14 +93,14 @@ pub struct TrafficKeys {
 }
 
 // A session ID, zeros beside a refusal.
-#[derive(Drop)]
+#[derive(Clone, Copy)]
 pub struct SessionId {
     pub says: KeySays,
     pub bytes: [u8; 33],
 }
 
 // A resumption identifier, zeros beside a refusal.
-#[derive(Drop)]
+#[derive(Clone, Copy)]
 pub struct Identifier {
     pub says: KeySays,
     pub bytes: [u8; 18],

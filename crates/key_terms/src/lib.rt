@@ -9,7 +9,7 @@ ghost use Rattle.key_terms.specs.Laws.{DataFits};
 use eno::Tep;
 
 // What the call says.
-#[derive(Drop)]
+#[derive(Clone, Copy)]
 pub enum TermsSays {
     Resumed,
     NoTerms,
@@ -17,7 +17,7 @@ pub enum TermsSays {
 }
 
 // The terms: this end's original role, and the nonces, first that of the end whose original role was A; zeros behind each nonce, and where there are no terms.
-#[derive(Drop)]
+#[derive(Clone, Copy)]
 pub struct ResumptionTerms {
     pub says: TermsSays,
     pub original: u8,
@@ -28,14 +28,14 @@ pub struct ResumptionTerms {
 }
 
 // Where the resumption data of a TEP stands in an option.
-#[derive(Drop)]
+#[derive(Clone, Copy)]
 enum DataAt {
     At { start: usize, len: usize },
     Missing,
 }
 
 // This end's original role, as far as two halves tell it.
-#[derive(Drop)]
+#[derive(Clone, Copy)]
 enum Original {
     RoleA,
     RoleB,

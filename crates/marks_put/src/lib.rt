@@ -1,4 +1,6 @@
 // The marks of rows with one set or cleared.
+#![tactic(auto)]
+
 ghost use Rattle.std.specs.Prelude.{◌<◌, ◌≡◌};
 ghost use Rattle.unit.specs.Numbers.{word_n};
 ghost use Rattle.unit.specs.Marks.{with_bit, with_mark, mark_for};

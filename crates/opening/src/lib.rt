@@ -10,7 +10,7 @@ use door::{Change, Door, Refusal, Reply, View};
 use eno::InHand;
 
 // The door afterwards, what is done with its records, and the reply.
-#[derive(Drop)]
+#[derive(Clone, Copy)]
 pub struct Opening {
     pub door: Door,
     pub change: Change,

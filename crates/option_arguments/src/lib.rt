@@ -1,4 +1,6 @@
 // The arguments of an option that is written: its TEP list, the record in hand, the role and the nonce.
+#![tactic(auto)]
+
 ghost use Rattle.std.specs.Prelude.{◌≡◌};
 ghost use Rattle.eno.specs.Session.{in_hand};
 ghost use Rattle.eno.specs.Option.{is_listed, is_tep_list, record_listed, offer_fits};

@@ -1,4 +1,6 @@
 // Parts of an option: one byte, the global byte, the half of an identifier that is sent, and the TEP of the record in hand.
+#![tactic(auto)]
+
 ghost use Rattle.std.specs.Prelude.{◌≡◌, ◌∷◌, []};
 ghost use Rattle.wire.specs.Bytes.{pasted};
 ghost use Rattle.eno.specs.Session.{in_hand, sent_half};

@@ -10,7 +10,7 @@ ghost use Rattle.option_layout.specs.Steps.{MayPutLast, write_bytes};
 use eno::InHand;
 
 // What a writer answers.
-#[derive(Drop)]
+#[derive(Clone, Copy)]
 pub enum OptionWritten {
     Wrote(usize),
     Unfit,

@@ -1,7 +1,8 @@
 // Messages in pieces: what a reader of pieces answers. The definitions and theorems are in specs/; the crates above have the calls.
+#![tactic(auto)]
 
 // What a call that is given a piece tells: it waits for more; a finished item; or the refusal with its position.
-#[derive(Drop)]
+#[derive(Clone, Copy)]
 pub enum PieceSays {
     Waiting,
     // nonce and key stand in the gathered bytes
@@ -36,14 +37,14 @@ pub enum PieceSays {
 }
 
 // That, and how many bytes of the piece were used.
-#[derive(Drop)]
+#[derive(Clone, Copy)]
 pub struct Fed {
     pub used: usize,
     pub says: PieceSays,
 }
 
 // What starting a reader answers.
-#[derive(Drop)]
+#[derive(Clone, Copy)]
 pub enum PieceStart {
     Started,
     Unfit,

@@ -12,7 +12,7 @@ use eno::{InHand, Tep};
 use suboption_list::{SuboptionItem, SuboptionList};
 
 // How a TEP is valid, if it is.
-#[derive(Drop)]
+#[derive(Clone, Copy)]
 pub enum Validity {
     Invalid,
     Fresh,

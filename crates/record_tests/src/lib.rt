@@ -1,4 +1,6 @@
 // Tests on session records: whether bytes are a record's parts, and whether a record has a name or a door has it in hand.
+#![tactic(auto)]
+
 ghost use Rattle.std.specs.Prelude.{◌≡◌};
 ghost use Rattle.eno.specs.Session.{in_hand};
 ghost use Rattle.door.specs.Record.{is_session};

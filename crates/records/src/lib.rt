@@ -9,7 +9,7 @@ use door::{Change, Reply, View};
 use eno::SessionRecord;
 
 // What store does; `added` is the record that is added, else zeros.
-#[derive(Drop)]
+#[derive(Clone, Copy)]
 pub struct Stored {
     pub change: Change,
     pub added: SessionRecord,
@@ -17,7 +17,7 @@ pub struct Stored {
 }
 
 // What forget does.
-#[derive(Drop)]
+#[derive(Clone, Copy)]
 pub struct Forgotten {
     pub change: Change,
     pub reply: Reply,

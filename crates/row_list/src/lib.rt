@@ -8,7 +8,7 @@ use door::EACH;
 use unit::{Position, ROWS};
 
 // The list after a change, with the row that is taken or freed and whether it is in use then; the number of rows stands for no row.
-#[derive(Drop)]
+#[derive(Clone, Copy)]
 pub struct Listing {
     pub fits: bool,
     pub row: usize,

@@ -1,4 +1,6 @@
 // A door that a segment opens, and what is then in hand.
+#![tactic(auto)]
+
 ghost use Rattle.std.specs.Prelude.{◌≡◌};
 ghost use Rattle.door.specs.Receive.{open_hand, open_door};
 ghost use Rattle.segment_doors.specs.Steps.{open_if};

@@ -9,7 +9,7 @@ use door::{Door, Refusal, Reply};
 use turns::Turn;
 
 // The door afterwards, and what the call replies.
-#[derive(Drop)]
+#[derive(Clone, Copy)]
 pub struct Received {
     pub door: Door,
     pub reply: Reply,

@@ -10,14 +10,14 @@ ghost use Rattle.sha256.specs.Running.{Begun, Adds, Stepped, Finished, capped};
 use hash_layout::{HashSays, Hashed, Words};
 
 // A running hash: the hash value of the whole blocks, and the number of bytes. The bytes after the blocks stand in a buffer of 64 bytes that is lent to each step.
-#[derive(Drop)]
+#[derive(Clone, Copy)]
 struct Running {
     h: Words,
     len: u64,
 }
 
 // A running hash, and the first byte of the part that it has not taken in.
-#[derive(Drop)]
+#[derive(Clone, Copy)]
 struct Taken {
     s: Running,
     next: usize,

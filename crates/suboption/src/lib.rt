@@ -1,10 +1,12 @@
 // What stands at a place of an ENO option: one suboption, the option's end, or what makes it ill-formed.
+#![tactic(auto)]
+
 ghost use Rattle.std.specs.Prelude.{◌≡◌};
 ghost use Rattle.eno.specs.Suboption.{suboption_at};
 ghost use Rattle.suboption.specs.Piece.{piece_of};
 
 // What stands at a place of an option.
-#[derive(Drop)]
+#[derive(Clone, Copy)]
 pub enum SuboptionAt {
     End,
     IllFormed,

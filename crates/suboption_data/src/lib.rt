@@ -1,4 +1,6 @@
 // What was sent of a TEP, by its byte and the length of its data: fresh or bad.
+#![tactic(auto)]
+
 ghost use Rattle.std.specs.Prelude.{◌≡◌};
 ghost use Rattle.eno.specs.Judge.{is_fresh, is_bad};
 ghost use Rattle.suboptions.specs.Summary.{as_sent};

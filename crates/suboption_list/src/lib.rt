@@ -1,4 +1,6 @@
 // A list of the suboptions of an ENO option. The definitions and laws are in specs/; the crates above make the list and answer the questions that are asked of it, for every list.
+#![tactic(auto)]
+
 ghost use Rattle.std.specs.Prelude.{◌≡◌};
 ghost use Rattle.eno.specs.Suboption.{global};
 ghost use Rattle.suboption_list.specs.List.{item_of};
@@ -7,7 +9,7 @@ ghost use Rattle.suboption_list.specs.List.{item_of};
 pub const MOST: usize = 38;
 
 // A suboption: a global byte, or a TEP with its byte, whether a length byte stands before it, and where its data stands in the option.
-#[derive(Drop)]
+#[derive(Clone, Copy)]
 pub struct SuboptionItem {
     pub is_tep: bool,
     pub counted: bool,
@@ -17,7 +19,7 @@ pub struct SuboptionItem {
 }
 
 // The suboptions of an option, in its order; behind the count the global byte 0.
-#[derive(Drop)]
+#[derive(Clone, Copy)]
 pub struct SuboptionList {
     pub ill_formed: bool,
     pub count: usize,

@@ -1,4 +1,6 @@
 // The TEPs of one name in a list of suboptions: how often, and the first.
+#![tactic(auto)]
+
 ghost use Rattle.std.specs.Prelude.{◌≡◌, cond, length};
 ghost use Rattle.eno.specs.Suboption.{teps};
 ghost use Rattle.eno.specs.Judge.{named};

@@ -1,4 +1,6 @@
 // The suboptions of an ENO option, read in one walk for all TEPs that the unit knows.
+#![tactic(auto)]
+
 ghost use Rattle.std.specs.Prelude.{◌≡◌};
 ghost use Rattle.suboptions.specs.Summary.{never, ill_formed, summary_of};
 

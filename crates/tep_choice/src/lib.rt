@@ -9,7 +9,7 @@ use eno::Cause;
 use suboptions::Entry;
 
 // What an answer comes to: plain with its reason, or the TEP that is answered and which record is resumed.
-#[derive(Drop)]
+#[derive(Clone, Copy)]
 pub enum Decision {
     Plain(Cause),
     With { tep: u8, at: usize },

@@ -1,4 +1,6 @@
 // Decimal words, read.
+#![tactic(auto)]
+
 ghost use Rattle.std.specs.Prelude.{◌≡◌};
 ghost use Rattle.text_decimal.specs.Decimal.{fitting, with_digit, number_said};
 ghost use Rattle.text_decimal.specs.Answers.{number_of};

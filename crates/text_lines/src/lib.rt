@@ -5,7 +5,7 @@ ghost use Rattle.text_lines.specs.LineLaws.{Pushed};
 ghost use Rattle.text_lines.specs.Answers.{Collects};
 
 // A line so far.
-#[derive(Drop)]
+#[derive(Clone, Copy)]
 pub struct Collected {
     // How much of the chunk is used.
     pub used: usize,

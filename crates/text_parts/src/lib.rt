@@ -1,4 +1,6 @@
 // Parts of a text: its first bytes, those from a place on, and those between two places. Total for any place of any slice.
+#![tactic(auto)]
+
 ghost use Rattle.std.specs.Prelude.{◌≡◌, ◌-◌, take, drop};
 
 // The first n bytes of s; all of them where it has fewer.

@@ -8,7 +8,7 @@ ghost use Rattle.turns.specs.Turns.{turn_as};
 use door::{Door, Phase, Reply};
 
 // What is done with a segment. A door that is not opened by it is Crossed after judging, and Answered after comparing.
-#[derive(Drop)]
+#[derive(Clone, Copy)]
 pub enum Turn {
     Judging { opens: bool },
     Comparing { opens: bool },

@@ -8,7 +8,7 @@ use eno::InHand;
 use judgement::Judgement;
 
 // What each of them says.
-#[derive(Drop)]
+#[derive(Clone, Copy)]
 pub struct TwoJudgements {
     pub quick: Judgement,
     pub plain: Judgement,

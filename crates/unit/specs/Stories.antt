@@ -364,12 +364,12 @@ module _ (d : ℕ) (h : d < doors_n) (cs : List Call) where
         unfolding a.answering
         choice = reason_none (answer_reason mandatory area) (choose_tep (syn_option area) list seen.held) c is
 
-        Agrees : verdict answer_terms ≡ encrypt 1 leaves.tep (way_if leaves.resumed) (syn_option area ++ answer_writes)
+        agrees : verdict answer_terms ≡ encrypt 1 leaves.tep (way_if leaves.resumed) (syn_option area ++ answer_writes)
         unfolding AllWhole
-        Agrees = answer_agrees aware mandatory area list nonce seen.held c long fit choice.0 choice.1 whole
+        agrees = answer_agrees aware mandatory area list nonce seen.held c long fit choice.0 choice.1 whole
 
         short : length answer_writes ≤ 40
-        short = judged_short mandatory answer_hand answer_writes area 1 leaves.tep (way_if leaves.resumed) (syn_option area ++ answer_writes) Agrees
+        short = judged_short mandatory answer_hand answer_writes area 1 leaves.tep (way_if leaves.resumed) (syn_option area ++ answer_writes) agrees
 
         answer_with_lem : length answer_writes ≤ length s → Told-as answer_ask (answer_with seen aware mandatory (syn_option area) nonce s (with c))
         unfolding Told-as answer_with
@@ -384,7 +384,7 @@ module _ (d : ℕ) (h : d < doors_n) (cs : List Call) where
               byte = leaves.tep;
               way = way_if leaves.resumed;
               transcript = syn_option area ++ answer_writes;
-              verdict_is = Agrees;
+              verdict_is = agrees;
               stored = answered_stored answer_writes (syn_option area) mandatory c.tep answer_hand short (option_at_most area);
               peer_is = answered_peer answer_writes (syn_option area) mandatory c.tep answer_hand short (option_at_most area);
             })

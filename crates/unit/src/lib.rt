@@ -1,4 +1,6 @@
 // The unit: all doors and one pool of session records. The definitions and theorems are in specs/.
+#![tactic(auto)]
+
 use door::{Door, EACH};
 use eno::SessionRecord;
 
@@ -11,7 +13,7 @@ pub const WORDS: usize = ROWS / 32;
 
 // A door in the unit: its own data, and the numbers of the rows that it holds, oldest first.
 #[repr(C)]
-#[derive(Drop)]
+#[derive(Clone, Copy)]
 pub struct Position {
     pub door: Door,
     pub count: u8,

@@ -1,4 +1,6 @@
 // The unit's content in arrays of bytes that a host lends: where all stands, and a row's bytes, read and written. Any bytes are a unit.
+#![tactic(auto)]
+
 ghost use Rattle.std.specs.Prelude.{◌≡◌, length, ◌++◌};
 ghost use Rattle.unit_bytes.specs.Content.{record_in, row_of};
 

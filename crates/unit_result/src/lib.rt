@@ -1,7 +1,7 @@
 // result: the unit's call that tells what a connection is, for any door number, any buffer and any content of the unit.
 ghost use Rattle.std.specs.Prelude.{◌≡◌};
 ghost use Rattle.door.specs.Answers.{secret_beside};
-ghost use Rattle.door.specs.Calls.{result};
+ghost use Rattle.door.specs.Calls.{result as ask_result};
 ghost use Rattle.unit.specs.Run.{on, step};
 ghost use Rattle.unit_bytes.specs.Content.{unit_in};
 ghost use Rattle.unit_step.specs.Steps.{result_of};
@@ -19,7 +19,7 @@ pub fn result(
     door: usize,
     out: &mut [u8],
 ) -> Resulted
-    ensures* { λ r. ⌜ (result_of r out.new (unit_in marks.now rows.now doors.now) ≡ step (unit_in marks.now rows.now doors.now) (on door (result out.old))) × (r.secret ≡ secret_beside (step (unit_in marks.now rows.now doors.now) (on door (result out.old))).told.reply) ⌝ }
+    ensures { (result_of result out.new (unit_in marks.now rows.now doors.now) ≡ step (unit_in marks.now rows.now doors.now) (on door (ask_result out.old))) × (result.secret ≡ secret_beside (step (unit_in marks.now rows.now doors.now) (on door (ask_result out.old))).told.reply) }
 {
     if DOORS <= door {
         return Resulted {

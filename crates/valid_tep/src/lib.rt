@@ -1,7 +1,8 @@
 // The last valid TEP of host B's option, by what each side sent of each TEP, and the record in hand: what is found. The definitions are in specs/; the crates above have the calls.
+#![tactic(auto)]
 
 // How a TEP is valid, if it is.
-#[derive(Drop)]
+#[derive(Clone, Copy)]
 pub enum Validity {
     Invalid,
     Fresh,
@@ -9,7 +10,7 @@ pub enum Validity {
 }
 
 // The valid TEP that stands last in B's option, of those looked at: where its data starts.
-#[derive(Drop)]
+#[derive(Clone, Copy)]
 pub struct Best {
     pub found: bool,
     pub start: usize,

@@ -1,4 +1,6 @@
 // Whether the record in hand is of a TEP and its halves stand in A's option and in B's.
+#![tactic(auto)]
+
 ghost use Rattle.std.specs.Prelude.{◌≡◌, ◌≤◌};
 ghost use Rattle.wire.specs.Bytes.{same_bytes, part};
 ghost use Rattle.eno.specs.Session.{in_hand};

@@ -1,4 +1,6 @@
 // Big-endian numbers on the wire, read and written at any place of any slice, in one place, and the frame ID.
+#![tactic(auto)]
+
 ghost use Rattle.std.specs.Prelude.{◌≡◌};
 ghost use Rattle.wire.specs.Bytes.{pasted};
 ghost use Rattle.wire.specs.Frame.{frame_id};

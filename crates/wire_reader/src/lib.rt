@@ -1,4 +1,6 @@
 // Big-endian numbers on the wire, read at any place of any slice.
+#![tactic(auto)]
+
 ghost use Rattle.std.specs.Prelude.{◌≡◌, ◌+◌, ◌≤◌, ◌<◌, ◌^◌, get_or};
 ghost use Rattle.wire.specs.Number.{number_at};
 

@@ -1,4 +1,6 @@
 // Big-endian numbers on the wire, written at any place of any slice.
+#![tactic(auto)]
+
 ghost use Rattle.std.specs.Prelude.{◌≡◌};
 ghost use Rattle.wire.specs.Bytes.{pasted};
 ghost use Rattle.wire.specs.Number.{big_endian};
