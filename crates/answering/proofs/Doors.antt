@@ -9,7 +9,7 @@ use lib.Dec.{leb}
 use lib.ListN.{length}
 use Rattle.eno.specs.Tep.{is_known}
 use Rattle.eno.specs.Option.{record_listed, answer_fits}
-use Rattle.eno.specs.Laws.Asked.{and_true, is_tep}
+use Rattle.eno.proofs.Laws.Asked.{and_true, is_tep}
 use Rattle.eno.specs.declared.SessionRecord.{SessionRecord}
 use Rattle.eno.specs.declared.InHand.{InHand}
 use Rattle.door.specs.Door.{hand_of, empty_hand}

@@ -14,12 +14,13 @@ use Rattle.eno.specs.Suboption.{Sent}
 use Rattle.eno.specs.Judge.{is_resumption, half_of}
 use Rattle.eno.specs.Option.{is_listed, record_listed, answer_fits}
 use Rattle.eno.specs.Laws.Walk.{Every}
-use Rattle.eno.specs.Laws.Tep.{known_yes}
-use Rattle.eno.specs.Laws.Asked.{and_true, IsTep}
+use Rattle.eno.proofs.Laws.Tep.{known_yes}
+use Rattle.eno.specs.Laws.Asked.{IsTep}
+use Rattle.eno.proofs.Laws.Asked.{and_true}
 use Rattle.eno.specs.declared.SessionRecord.{SessionRecord}
 use Rattle.door.specs.Record.{first_that, record_at, past_end}
 use Rattle.door.specs.Answer.{candidate, is_candidate, fitting_at, last_that, Choice, or_fresh, choose_tep}
-use Rattle.door.specs.Laws.Choice.{first_passes}
+use Rattle.door.proofs.Laws.Choice.{first_passes}
 use Rattle.tep_choice.specs.Laws.Listing.{last_is}
 use Rattle.opening.specs.Laws.Taken.{taken_there, taken_none}
 

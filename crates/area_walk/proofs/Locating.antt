@@ -8,8 +8,8 @@ use borrow.Author.Tests.{eq-eqb, ne_eqb, lt-ltb, le-ltb}
 use lib.ListN.{length}
 use Rattle.eno.specs.Walk.{end, fault, item, Reading, readable, faulty, before, items_of}
 use Rattle.eno.specs.Area.{Placed, Fault, Finding, refused, unreadable, missing, found, option_at, options, enos, choose, chosen, finding}
-use Rattle.eno.specs.Laws.Walk.{unroll_end, unroll_fault, unroll_item}
-use Rattle.eno.specs.Laws.Area.{option_ends, option_onward}
+use Rattle.eno.proofs.Laws.Walk.{unroll_end, unroll_fault, unroll_item}
+use Rattle.eno.proofs.Laws.Area.{option_ends, option_onward}
 
 abbrev eno : ℕ → ℕ → Placed
 eno i n = record { kind = 0x45; start = i; len = n }

@@ -5,8 +5,5 @@ pub mod Checking
 pub mod Writing
 pub mod CheckingLaws
 pub mod Numbered
-pub mod Refusals
-pub mod WritingRefusals
 pub mod SettingLaws
 pub mod Answers
-pub mod WorkedExamples

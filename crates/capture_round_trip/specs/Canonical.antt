@@ -14,7 +14,8 @@ use Rattle.wire.specs.ByteLaws.{length_bytes_from, bytes_from_bytes, bytes_from_
 use Rattle.wire.specs.NumberLaws.{big_number}
 use Rattle.capture_layout.specs.Layout.{Handshake, bodies_of, joined, size_of, all_bodies, contents_size, extents, entries, file_of, count_in, door_in, place_in, length_in, end_in, body_in, handshake_in, handshakes_from, handshakes_in}
 use Rattle.capture_layout.specs.Checking.{end_before, expected, refused_first}
-use Rattle.capture_layout.specs.CheckingLaws.{Laid, laid, body_is, body_length}
+use Rattle.capture_layout.specs.CheckingLaws.{Laid}
+use Rattle.capture_layout.proofs.CheckingLaws.{laid, body_is, body_length}
 
 -- a part, and what stands behind it
 pub part_rest : (p n : ℕ) (f : List ℕ) → part p n f ++ drop (p + n) f ≡ drop p f

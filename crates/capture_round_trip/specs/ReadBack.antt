@@ -15,11 +15,11 @@ use Rattle.wire.specs.Bytes.{bytes_from, part}
 use Rattle.wire.specs.Number.{big_endian, number, number_at}
 use Rattle.wire.specs.ByteLaws.{bytes_from_part}
 use Rattle.wire.specs.NumberLaws.{length_big, number_big_whole}
-use Rattle.eno.specs.Laws.Encoding.{rest_at, rest_drop}
+use Rattle.eno.proofs.Laws.Encoding.{rest_at, rest_drop}
 use Rattle.refusals.specs.Rows.{refusal}
 use Rattle.capture_layout.specs.Layout.{Handshake, bodies_of, joined, size_of, all_bodies, contents_size, extents, entries, file_of, most_file, most_handshakes, count_in, door_in, place_in, length_in, end_in, body_in, handshake_in, handshakes_from, handshakes_in}
 use Rattle.capture_layout.specs.Checking.{any_from, any_body, is_wrong_size, is_past_end, end_before, expected, is_misplaced, has_rest, refused_first}
-use Rattle.capture_layout.specs.CheckingLaws.{body_is}
+use Rattle.capture_layout.proofs.CheckingLaws.{body_is}
 use Rattle.capture_round_trip.specs.Canonical.{extents_then, joined_then}
 
 -- a number that stands at a place, and what stands behind bytes

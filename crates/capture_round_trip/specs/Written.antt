@@ -13,11 +13,12 @@ use Rattle.eno.specs.Option.{Written, written_as, wrote, Writing}
 use Rattle.eno.specs.Option as o
 use Rattle.capture_layout.specs.Layout.{Handshake, handshake_with, bodies_of, joined, size_of, all_bodies, contents_size, file_of, most_file, most_handshakes, count_in, door_in, place_in, length_in, end_in, body_in, handshake_in, handshakes_from, handshakes_in}
 use Rattle.capture_layout.specs.Checking.{any_from, or_else, end_before, expected, refused_first, refused_then, Checked, sound, refused_with, sound_unless, checked}
-use Rattle.capture_layout.specs.CheckingLaws.{or_false, three_false, Laid, laid, body_is, body_length}
+use Rattle.capture_layout.specs.CheckingLaws.{Laid}
+use Rattle.capture_layout.proofs.CheckingLaws.{or_false, three_false, laid, body_is, body_length}
 use Rattle.capture_layout.specs.Writing.{count_of, door_at, length_at, bodies_at, bodies_size, all_size, file_size, staged_at, staged_from, staged, is_wrong_count, is_no_door_at, is_long_area_at, unfit_from, writing_first, writing_then, written_unless, write_capture}
 use Rattle.capture_layout.specs.Numbered.{any_of, number1, number2, number21, handshake_rows, staged_rows, lengths_of, sum}
-use Rattle.capture_layout.specs.Refusals.{then_rows}
-use Rattle.capture_layout.specs.WritingRefusals.{bodies_there, staged_rows_lem}
+use Rattle.capture_layout.proofs.Refusals.{then_rows}
+use Rattle.capture_layout.proofs.WritingRefusals.{bodies_there, staged_rows_lem}
 use Rattle.capture_round_trip.specs.Canonical.{length_from, laid_is_file}
 use Rattle.capture_round_trip.specs.ReadBack.{length_joined, bodies_length, length_file, handshakes_of_file}
 

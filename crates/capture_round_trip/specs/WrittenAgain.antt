@@ -15,11 +15,12 @@ use Rattle.refusals.specs.Rows.{refusal}
 use Rattle.eno.specs.Option.{Written, written_as, wrote}
 use Rattle.capture_layout.specs.Layout.{Handshake, contents_size, file_of, most_file, most_handshakes, count_in, door_in, place_in, length_in, end_in, body_in, handshake_in, handshakes_from, handshakes_in}
 use Rattle.capture_layout.specs.Checking.{any_from, or_else, end_before, expected, refused_first, refused_then, Checked, sound, sound_unless, checked}
-use Rattle.capture_layout.specs.CheckingLaws.{three_false, Laid, laid, body_is}
+use Rattle.capture_layout.specs.CheckingLaws.{Laid}
+use Rattle.capture_layout.proofs.CheckingLaws.{three_false, laid, body_is}
 use Rattle.capture_layout.specs.Writing.{count_of, door_at, length_at, bodies_at, bodies_size, all_size, file_size, staged_at, staged_from, staged, is_wrong_count, is_no_door_at, is_long_area_at, unfit_from, writing_first, writing_then, written_unless, write_capture}
 use Rattle.capture_layout.specs.Numbered.{any_of, number1, number2, number21, handshake_rows}
-use Rattle.capture_layout.specs.Refusals.{then_rows}
-use Rattle.capture_layout.specs.WritingRefusals.{doors_row, areas_row, settings_row}
+use Rattle.capture_layout.proofs.Refusals.{then_rows}
+use Rattle.capture_layout.proofs.WritingRefusals.{doors_row, areas_row, settings_row}
 use Rattle.capture_round_trip.specs.Canonical.{laid_is_file}
 use Rattle.capture_round_trip.specs.Written.{none_of}
 

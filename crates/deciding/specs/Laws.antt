@@ -14,10 +14,12 @@ use Rattle.eno.specs.Walk.{Reading, readable, faulty, listed}
 use Rattle.eno.specs.Suboption.{suboptions, is_ill_formed, aware_bit, global_byte}
 use Rattle.eno.specs.Judge.{is_unreadable, is_missing, role_of, aware_of, teps_of}
 use Rattle.eno.specs.Option.{is_tep_list}
-use Rattle.eno.specs.Laws.Found.{found_option, found_short}
-use Rattle.eno.specs.Laws.Tests.{Found, short_finds, is_found, aware_or_not}
+use Rattle.eno.proofs.Laws.Found.{found_option, found_short}
+use Rattle.eno.specs.Laws.Tests.{Found}
+use Rattle.eno.proofs.Laws.Tests.{short_finds, is_found, aware_or_not}
 use Rattle.suboptions.specs.Summary.{entries_of, summary_of}
-use Rattle.suboptions.specs.Laws.{saying, summary_says}
+use Rattle.suboptions.specs.Laws.{saying}
+use Rattle.suboptions.proofs.Laws.{summary_says}
 use Rattle.suboptions.specs.declared.Summary.{Summary}
 use Rattle.door.specs.Door.{Seen}
 use Rattle.door.specs.Answer.{choose_tep, answer_reason, Answering, plain_for, chosen_or, reason_or, answering}

@@ -9,9 +9,7 @@ pub mod Receive
 pub mod Records
 pub mod Calls
 pub mod Answers
-pub mod Telling
 pub mod Numbered
-pub mod SameTests
 pub mod Refusals
 pub mod Laws
 pub mod Taking

@@ -1,18 +1,13 @@
 -- Cases K1 to K12 of document 01's bench table, with those on bit a, on the record R and on unreadable areas: one table, one claim about all rows.
-use Rattle.std.specs.Prelude.{ℕ, ◌≡◌, refl, List, [], ◌∷◌, ◌++◌, map, Bool, true, false, replicate}
-use Rattle.std.proofs.Math.Option.{Option, none, some}
-use Rattle.wire.specs.Bytes.{part, same_bytes}
-use Rattle.wire.specs.Number.{big_endian}
-use Rattle.wire.specs.Frame.{frame_id_after, xor_bytes, frame_prefix, frame_id, nonce}
-use Rattle.eno.specs.Walk.{Reading, readable, faulty, items, items_of}
-use Rattle.eno.specs.Area.{Finding, unreadable, missing, found, option_at, options, enos, choose, chosen, finding, part_of, syn_option}
+use Rattle.std.specs.Prelude.{ℕ, ◌≡◌, List, [], ◌∷◌, ◌++◌, Bool, true, false, replicate}
+use Rattle.std.proofs.Math.Option.{none, some}
+use Rattle.wire.specs.Frame.{nonce}
+use Rattle.eno.specs.Walk.{Reading, readable, faulty}
+use Rattle.eno.specs.Area.{Finding, unreadable, missing, found, finding}
 use Rattle.eno.specs.Cause.{numbered}
-use Rattle.eno.specs.Suboption.{suboption_at, suboptions, is_ill_formed, globals, global_byte, role_bit, aware_bit, teps}
-use Rattle.eno.specs.Tep.{is_known}
-use Rattle.eno.specs.Session.{sent_half, expected_half}
-use Rattle.eno.specs.Judge.{is_fresh, is_bad, is_resumption, half_of, Way, fresh, resumed, matches, named, once, of_a, of_b, way_of, way_of_both, teps_of, validity, last_valid, Judged, refuse, plain, encrypt, agreed, negotiate, first_of, role_of, aware_of, judge}
-use Rattle.eno.specs.Option.{Content, global_with, tep_with}
-use Rattle.eno.specs.Content.{content_of, contents}
+use Rattle.eno.specs.Judge.{fresh, resumed, Judged, refuse, plain, encrypt, role_of, judge}
+use Rattle.eno.specs.Option.{Content, tep_with}
+use Rattle.eno.specs.Content.{contents}
 use Rattle.eno.specs.declared.SessionRecord.{SessionRecord}
 use Rattle.eno.specs.declared.Cause.{Cause}
 
@@ -146,10 +141,3 @@ table =
     -- an end mark hides what follows
     ∷ row (area (0x45 ∷ 3 ∷ 0x23 ∷ 0 ∷ 2 ∷ []) true) (finds (found 0 3))
     ∷ []
-
--- each row's answer is the one expected
-pub bench_table : map (λ (r : Row). answer r.given) table ≡ map (λ (r : Row). r.expected) table
-unfolding table answer part same_bytes big_endian frame_id_after xor_bytes frame_prefix frame_id nonce items items_of option_at options enos choose chosen finding part_of syn_option
-    suboption_at suboptions is_ill_formed globals global_byte role_bit aware_bit teps is_known sent_half expected_half
-    is_fresh is_bad is_resumption half_of matches named once of_a of_b way_of way_of_both teps_of validity last_valid agreed negotiate first_of role_of aware_of judge content_of contents
-bench_table = refl

@@ -1,11 +1,9 @@
 -- Laws of the definitions, for the proofs.
 pub mod Tep
 pub mod Walk
-pub mod Encoding
 pub mod Area
 pub mod Found
 pub mod Suboption
 pub mod Teps
 pub mod Asked
 pub mod Tests
-pub mod Held

@@ -5,5 +5,4 @@ pub mod Calls
 pub mod Answers
 pub mod Numbered
 pub mod Refusals
-pub mod LayoutLaws
 pub mod Reading

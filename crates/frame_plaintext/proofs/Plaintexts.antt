@@ -13,7 +13,7 @@ use Rattle.wire.specs.NumberLaws.{length_big}
 use Rattle.refusals.specs.Rows.{refusal}
 use Rattle.frame_layout.specs.Layout as layout
 use Rattle.frame_layout.specs.Layout.{bit0, bit1, most_plaintext, flags_sent, heading_length, heading}
-use Rattle.frame_layout.specs.LayoutLaws.{sent_urg}
+use Rattle.frame_layout.proofs.LayoutLaws.{sent_urg}
 use Rattle.frame_layout.specs.Outcome.{unless}
 use Rattle.frame_layout.specs.Calls.{write_plaintext, read_plaintext, plaintext_in, plaintext_out, no_plaintext, outcome}
 use Rattle.frame_layout.specs.Answers.{plaintext_written, plaintext_told}

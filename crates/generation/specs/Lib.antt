@@ -1,7 +1,6 @@
 -- Generations: the steps, the numbers of their refusals, and the laws of a connection.
 pub mod Steps
 pub mod Answers
-pub mod Passing
 pub mod Numbered
 pub mod Refusals
 pub mod LocalStep

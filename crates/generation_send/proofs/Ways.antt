@@ -11,7 +11,7 @@ use Rattle.generation.specs.Answers.{step_of}
 use Rattle.generation.specs.declared.GenerationRecord.{GenerationRecord}
 use Rattle.generation.specs.declared.GenerationReply.TheVariants as a
 use Rattle.generation.specs.declared.GenerationStep.{GenerationStep}
-use Rattle.generation.specs.Passing.{passes_not}
+use Rattle.generation.proofs.Passing.{passes_not}
 
 module _ (g : GenerationRecord) where
   -- sending one frame

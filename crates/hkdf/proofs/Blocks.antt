@@ -14,7 +14,7 @@ use Rattle.refusals.specs.Rows.{refusal}
 use Rattle.hash_layout.specs.declared.Hashed.{Hashed}
 use Rattle.hash_layout.specs.Hmac.{hmac}
 use Rattle.hash_layout.specs.Hkdf.{hkdf_t, okm, hkdf_expand}
-use Rattle.hash_layout.specs.Lengths.{length_okm}
+use Rattle.hash_layout.proofs.Lengths.{length_okm}
 use Rattle.hash_layout.specs.Outcome.{Outcome, unless}
 use Rattle.hash_layout.specs.Calls.{mac, longest, too_long, mac_too_long, digest, outcome}
 use Rattle.hash_layout.specs.Answers.{hash_told}

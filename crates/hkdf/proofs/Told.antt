@@ -13,7 +13,7 @@ use Rattle.hash_layout.specs.declared.HashSays.{HashSays}
 use Rattle.hash_layout.specs.declared.HashSays.TheVariants as h
 use Rattle.hash_layout.specs.declared.Hashed.{Hashed}
 use Rattle.hash_layout.specs.Hkdf.{hkdf_extract, hkdf_expand}
-use Rattle.hash_layout.specs.Lengths.{length_expand}
+use Rattle.hash_layout.proofs.Lengths.{length_expand}
 use Rattle.hash_layout.specs.Outcome.{Outcome, Reply, refused, written, unless}
 use Rattle.hash_layout.specs.Calls.{mac, extract, expand, longest, too_long, most_expanded, expand_too_long, expanded, outcome}
 use Rattle.hash_layout.specs.Answers.{hash_reply, hash_told}

@@ -13,7 +13,7 @@ use Rattle.hash_layout.specs.declared.HashSays.TheVariants as k
 use Rattle.hash_layout.specs.declared.Hashed.{Hashed}
 use Rattle.hash_layout.specs.Sha256.{sha256}
 use Rattle.hash_layout.specs.Hmac.{block_of, key_block, xor_all, hmac}
-use Rattle.hash_layout.specs.Lengths.{length_sha}
+use Rattle.hash_layout.proofs.Lengths.{length_sha}
 use Rattle.hash_layout.specs.Outcome.{Outcome, unless}
 use Rattle.hash_layout.specs.Calls.{hash, mac, longest, too_long, mac_too_long, digest, outcome}
 use Rattle.hash_layout.specs.Answers.{hash_told}

@@ -1,3 +1,2 @@
 -- The finder's word in plain numbers, and that these lose nothing.
 pub mod Replies
-pub mod ReadBack

@@ -1,2 +1,3 @@
 -- Laws that the proof uses, and those of the exports above.
 pub mod Judging
+pub mod ReadBack

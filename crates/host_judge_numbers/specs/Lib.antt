@@ -1,3 +1,2 @@
 -- A judgement in plain numbers, and that these lose nothing.
 pub mod Replies
-pub mod ReadBack

@@ -1,2 +1,3 @@
 -- Laws of the unit's replies in plain numbers.
 pub mod Numbering
+pub mod ReadBack

@@ -1,3 +1,2 @@
 -- The unit's replies in plain numbers, and that these lose nothing.
 pub mod Replies
-pub mod ReadBack

@@ -14,7 +14,7 @@ use Rattle.wire.specs.ByteLaws.{pasted_twice, length_pasted}
 use Rattle.wire.specs.Number.{big_endian}
 use Rattle.wire.specs.NumberLaws.{length_big}
 use Rattle.init_layout.specs.Layout.{cipher_bytes}
-use Rattle.init_layout.specs.LayoutLaws.{length_ciphers}
+use Rattle.init_layout.proofs.LayoutLaws.{length_ciphers}
 
 -- no bytes
 nothing_put : (s : List ℕ) (at : ℕ) → s ≡ pasted s at []

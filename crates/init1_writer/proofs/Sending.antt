@@ -10,9 +10,9 @@ use Rattle.wire.specs.Number.{big_endian}
 use Rattle.wire.specs.NumberLaws.{length_big}
 use Rattle.eno.specs.Option.{written_as, wrote, refused_with}
 use Rattle.init_layout.specs.Layout.{init1, magic_of, message_with, count_field, cipher_bytes, fields_of, encoded, init1_bytes}
-use Rattle.init_layout.specs.LayoutLaws.{length_magic, length_ciphers, length_encoded, length_init1}
-use Rattle.init_layout.specs.WritingLaws.{parts, ciphers_listed}
-use Rattle.init_layout.specs.Refusals.{keys_few}
+use Rattle.init_layout.proofs.LayoutLaws.{length_magic, length_ciphers, length_encoded, length_init1}
+use Rattle.init_layout.proofs.WritingLaws.{parts, ciphers_listed}
+use Rattle.init_layout.proofs.Refusals.{keys_few}
 use Rattle.init_layout.specs.Writing.{parts_fit, ciphers_fit, write_init1}
 use Rattle.init_writing.proofs.Putting.{next, says_unfit, says_no_room, says_wrote}
 

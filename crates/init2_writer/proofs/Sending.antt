@@ -12,9 +12,9 @@ use Rattle.wire.specs.Number.{big_endian}
 use Rattle.wire.specs.NumberLaws.{length_big}
 use Rattle.eno.specs.Option.{written_as, wrote, refused_with}
 use Rattle.init_layout.specs.Layout.{init2, magic_of, message_with, count_field, cipher_bytes, fields_of, encoded, init2_bytes}
-use Rattle.init_layout.specs.LayoutLaws.{length_magic, length_encoded, length_init2}
-use Rattle.init_layout.specs.WritingLaws.{parts}
-use Rattle.init_layout.specs.Refusals.{keys_few}
+use Rattle.init_layout.proofs.LayoutLaws.{length_magic, length_encoded, length_init2}
+use Rattle.init_layout.proofs.WritingLaws.{parts}
+use Rattle.init_layout.proofs.Refusals.{keys_few}
 use Rattle.init_layout.specs.Writing.{parts_fit, write_init2}
 use Rattle.init_writing.proofs.Putting.{next, says_unfit, says_no_room, says_wrote}
 

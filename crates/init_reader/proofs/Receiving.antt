@@ -12,7 +12,7 @@ use Rattle.wire.specs.Number.{number_at}
 use Rattle.eno.specs.Tep.{key_length}
 use Rattle.init_layout.specs.Layout.{Init, init1, init2}
 use Rattle.init_layout.specs.Reading.{count_at, ciphers_from, nonce_from, fields_end, Standing, unreadable, incomplete, whole, standing_of, ciphers_at, first_that, is_enabled, in_init1, took, refused_with, reading_as, zeros, refused_reading, padded, with_cipher, taken_from, read_as, reading, read_for, read_init1, read_init2}
-use Rattle.init_layout.specs.StandingOfLaws.{of_whole}
+use Rattle.init_layout.proofs.StandingOfLaws.{of_whole}
 use Rattle.init_layout.specs.declared.Enabled.{Enabled}
 
 -- either message

@@ -9,7 +9,7 @@ use lib.Dec.{eqb}
 use lib.ListN.{length}
 use Rattle.wire.specs.Number.{number_at}
 use Rattle.init_layout.specs.Reading.{void_from}
-use Rattle.init_layout.specs.VoidLaws.{void_at_lem, void_past}
+use Rattle.init_layout.proofs.VoidLaws.{void_at_lem, void_past}
 
 module _ (p : List ℕ) (at count : ℕ) where
   pub record Looked (i next : ℕ) : Type 0 where

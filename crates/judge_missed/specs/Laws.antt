@@ -10,8 +10,9 @@ use Rattle.std.proofs.Math.ListN.{length}
 use Rattle.eno.specs.Area.{Finding, refused, unreadable, missing, found, finding, part_of, status}
 use Rattle.eno.specs.Cause.{numbered, blame}
 use Rattle.eno.specs.Judge.{Judged, refuse, plain, first_of, is_unreadable, is_missing, judge}
-use Rattle.eno.specs.Laws.Found.{found_option, found_says}
-use Rattle.eno.specs.Laws.Tests.{is_refused, long_refused}
+use Rattle.eno.proofs.Laws.Found.{found_option, found_says}
+use Rattle.eno.specs.Laws.Tests.{is_refused}
+use Rattle.eno.proofs.Laws.Tests.{long_refused}
 use Rattle.eno.specs.declared.SessionRecord.{SessionRecord}
 use Rattle.judgement.specs.Answers.{without_transcript, Judges}
 use Rattle.judgement.specs.Laws.Plainly.{judges_plainly}

@@ -11,7 +11,8 @@ use Rattle.key_terms.specs.Terms.{Data, Terms, resumption_data, half_in, nonce_i
 use Rattle.key_terms.specs.Calls.{Says, resumed, no_terms, Outcome, in_eight, zeros, given}
 use Rattle.key_terms.specs.Answers.{says_of, terms_told}
 use Rattle.key_terms.specs.declared.TermsSays.{TermsSays}
-use Rattle.key_terms.specs.Laws.{DataFits, data_fits}
+use Rattle.key_terms.specs.Laws.{DataFits}
+use Rattle.key_terms.proofs.Laws.{data_fits}
 
 pub without_terms : (x : TermsSays) → terms_told (record { says = x; original = 0; length_a = 0; nonce_a = replicate 8 0; length_b = 0; nonce_b = replicate 8 0 }) ≡ zeros (says_of x)
 unfolding zeros

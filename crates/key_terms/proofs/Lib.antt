@@ -4,3 +4,7 @@ pub mod Sending
 pub mod Halves
 pub mod Giving
 pub mod Cutting
+pub mod Answers
+pub mod Examples
+pub mod Laws
+pub mod Refusals

@@ -12,7 +12,8 @@ use lib.ListN.{length, get_or}
 use Rattle.eno.specs.Suboption.{Sent, suboptions, is_ill_formed}
 use Rattle.eno.specs.Judge.{is_fresh, is_bad, is_resumption, named, once, teps_of, role_of, aware_of}
 use Rattle.suboptions.specs.Summary.{never, as_sent, again, entry_from, entries_of, summary_of}
-use Rattle.suboptions.specs.Laws.{saying, summary_says, entry_of_lem, entry_times, entry_once}
+use Rattle.suboptions.specs.Laws.{saying}
+use Rattle.suboptions.proofs.Laws.{summary_says, entry_of_lem, entry_times, entry_once}
 use Rattle.suboptions.specs.declared.Entry.{Entry}
 use Rattle.suboptions.specs.declared.Summary.{Summary}
 use Rattle.key_terms.specs.Terms.{Data, is_whole, data_of, resumption_data}

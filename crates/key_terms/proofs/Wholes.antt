@@ -7,7 +7,7 @@ use native.Mathlib.Omega.{arith}
 use borrow.Author.Tests.{leb-true, lt-leb, le-leb, eq-eqb, ne_eqb}
 use lib.Dec.{leb, eqb}
 use lib.ListN.{length, get_or}
-use Rattle.eno.specs.Laws.Asked.{and_true}
+use Rattle.eno.proofs.Laws.Asked.{and_true}
 use Rattle.key_terms.specs.Terms.{is_whole}
 
 and_false : (b : Bool) → false ≡ b && false

@@ -1,5 +1,4 @@
 -- After a result that says resumed, the terms are the record's own role and the nonces that the two options carry.
 pub mod Judged
 pub mod Telling
-pub mod Room
 pub mod Resumed

@@ -12,7 +12,7 @@ use borrow.Author.Tests.{lt-ltb, le-ltb, ltb-true, ltb-false}
 use Rattle.unit.specs.Numbers.{word_n}
 use Rattle.unit.specs.Marks.{bits_of, marks_in}
 use Rattle.unit.specs.Unit.{or_next, first_free}
-use Rattle.unit.specs.Laws.Marks.{length_bits}
+use Rattle.unit.proofs.Laws.Marks.{length_bits}
 
 append_step : (o f l m g : ℕ) → g ≡ cond (ltb f l) f (l + m) → or_next o g ≡ cond (ltb (or_next o f) (suc l)) (or_next o f) (suc l + m)
 unfolding or_next

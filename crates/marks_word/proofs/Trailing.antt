@@ -6,7 +6,7 @@ use native.Mathlib.Omega.{arith}
 use lib.Count.{count_trailing_zeros, under}
 use Rattle.unit.specs.Marks.{bits_of}
 use Rattle.unit.specs.Unit.{or_next, first_free}
-use Rattle.unit.specs.Laws.Marks.{low_le}
+use Rattle.unit.proofs.Laws.Marks.{low_le}
 
 under_next : (m x : ℕ) → m ≤ 1 → under (1 - m) x ≡ or_next m x
 unfolding or_next

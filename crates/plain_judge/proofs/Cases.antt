@@ -11,8 +11,8 @@ use Rattle.eno.specs.Area.{finding, part_of}
 use Rattle.eno.specs.Cause.{numbered}
 use Rattle.eno.specs.Suboption.{suboptions, is_ill_formed, global_byte, role_bit, aware_bit, teps}
 use Rattle.eno.specs.Judge.{of_a, of_b, Judged, plain, validity, negotiate, role_of, aware_of, teps_of, judge}
-use Rattle.eno.specs.Laws.Found.{found_short}
-use Rattle.eno.specs.Laws.Tests.{aware_or_not}
+use Rattle.eno.proofs.Laws.Found.{found_short}
+use Rattle.eno.proofs.Laws.Tests.{aware_or_not}
 use Rattle.eno.specs.declared.SessionRecord.{SessionRecord}
 use Rattle.judgement.specs.Answers.{without_transcript, Judges}
 use Rattle.judgement.specs.Laws.Plainly.{judges_reason}
@@ -21,10 +21,12 @@ use Rattle.judgement.specs.declared.Reason.TheVariants as reason
 use Rattle.judgement.specs.declared.Verdict.TheVariants as verdict
 use Rattle.judgement.specs.declared.Judgement.{Judgement}
 use Rattle.suboption_list.specs.List.{items_in, list_of}
-use Rattle.suboption_list.specs.Laws.{list_says}
+use Rattle.suboption_list.proofs.Laws.{list_says}
 use Rattle.suboption_list.specs.declared.SuboptionList.{SuboptionList}
-use Rattle.plain_validity.specs.Validity.{validity_in, validity_of}
-use Rattle.plain_striking.specs.Striking.{struck, last_of, taken, judge_by_striking}
+use Rattle.plain_validity.specs.Validity.{validity_in}
+use Rattle.plain_validity.proofs.Validity.{validity_of}
+use Rattle.plain_striking.specs.Striking.{struck, last_of, taken}
+use Rattle.plain_striking.proofs.Striking.{judge_by_striking}
 use Rattle.plain_judge.specs.Plain.{concluded, negotiated_in}
 use Rattle.plain_judge.proofs.Concluding.{says_agreed}
 

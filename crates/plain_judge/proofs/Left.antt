@@ -9,7 +9,7 @@ use lib.ListN.{length, get_or, replicate}
 use Rattle.eno.specs.Suboption.{Sent, tep, teps}
 use Rattle.eno.specs.Judge.{Way, or_else}
 use Rattle.suboption_list.specs.List.{most_items, item_of, filler, sent_of, count_of, items_in, array_of, list_with, list_of, last_item}
-use Rattle.suboption_list.specs.Laws.{count_within}
+use Rattle.suboption_list.proofs.Laws.{count_within}
 use Rattle.suboption_list.specs.declared.SuboptionItem.{SuboptionItem}
 use Rattle.suboption_list.specs.declared.SuboptionList.{SuboptionList}
 use Rattle.plain_striking.specs.Striking.{struck, last_of}

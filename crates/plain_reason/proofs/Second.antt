@@ -11,10 +11,10 @@ use Rattle.eno.specs.Area.{finding, part_of, syn_option}
 use Rattle.eno.specs.Suboption.{suboptions, is_ill_formed}
 use Rattle.eno.specs.Cause.{numbered, blame, first_cause}
 use Rattle.eno.specs.Judge.{is_unreadable, is_missing}
-use Rattle.eno.specs.Laws.Found.{found_short}
+use Rattle.eno.proofs.Laws.Found.{found_short}
 use Rattle.eno.specs.declared.Cause.{Cause}
 use Rattle.suboptions.specs.Summary.{summary_of}
-use Rattle.suboptions.specs.Laws.{summary_says}
+use Rattle.suboptions.proofs.Laws.{summary_says}
 use Rattle.suboptions.specs.declared.Summary.{Summary}
 use Rattle.door.specs.Door.{peer_option}
 use Rattle.door.specs.Receive.{second_reason}

@@ -1,2 +1,3 @@
 -- Laws that the proofs use.
 pub mod Struck
+pub mod Striking

@@ -9,8 +9,9 @@ use lib.ListN.{length, set, replicate, length-append}
 use Rattle.eno.specs.Suboption.{Suboption, tep, teps}
 use Rattle.eno.specs.Judge.{Way}
 use Rattle.suboption_list.specs.List.{most_items, filler, sent_of, suboption_of, items_in, array_of, list_as, list_with}
-use Rattle.suboption_list.specs.Laws.{append_nil, append_one, array_more}
-use Rattle.suboption_list.specs.Left.{at, left, left_all, left_item, as_sent_lem}
+use Rattle.suboption_list.proofs.Laws.{append_nil, append_one, array_more}
+use Rattle.suboption_list.specs.Left.{at}
+use Rattle.suboption_list.proofs.Left.{left, left_all, left_item, as_sent_lem}
 use Rattle.suboption_list.specs.declared.SuboptionItem.{SuboptionItem}
 use Rattle.suboption_list.specs.declared.SuboptionList.{SuboptionList}
 use Rattle.plain_validity.specs.Validity.{way_as}

@@ -2,3 +2,4 @@
 pub mod Sides
 pub mod Halves
 pub mod Cases
+pub mod Validity

@@ -2,7 +2,4 @@
 pub mod Carried
 pub mod Placed
 pub mod PlacedLaws
-pub mod Gathering
 pub mod Carrying
-pub mod Enacting
-pub mod EveryByte

@@ -7,7 +7,7 @@ use native.Mathlib.Numerals.{add-one}
 use lib.ListN.{length, get_or, take, set, length-append, length-set, get_or-eq_default}
 use lib.Seq.{take-suc, take-suc-set, take_all, take-append-le}
 use Rattle.door.specs.Calls.{cut}
-use Rattle.unit.specs.Laws.Lists.{length_cut}
+use Rattle.unit.proofs.Laws.Lists.{length_cut}
 
 abbrev pub closed : ℕ → List ℕ → List ℕ
 closed j l = cut j l ++ 0 ∷ []

@@ -5,8 +5,10 @@ use mathlib.Core.List.{List, [], ◌∷◌}
 use Rattle.eno.specs.Walk.{item, listed, items_of}
 use Rattle.eno.specs.Suboption.{Sent, Suboption, global, tep, suboption_at, suboptions, teps}
 use Rattle.eno.specs.Judge.{teps_of}
-use Rattle.eno.specs.Laws.Walk.{Every, every_item}
-use Rattle.eno.specs.Laws.Suboption.{SuboptionCase, a_global, a_bare, to_end, a_counted, suboption_case, suboption_onward}
+use Rattle.eno.specs.Laws.Walk.{Every}
+use Rattle.eno.proofs.Laws.Walk.{every_item}
+use Rattle.eno.specs.Laws.Suboption.{SuboptionCase, a_global, a_bare, to_end, a_counted}
+use Rattle.eno.proofs.Laws.Suboption.{suboption_case, suboption_onward}
 
 module _ (o : List ℕ) where
   pub tep_ends : (i : ℕ) (x : Sent) (j : ℕ) → suboption_at o i ≡ item (tep x) j → x.start + x.len ≡ j

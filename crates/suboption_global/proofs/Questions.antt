@@ -5,7 +5,7 @@ use mathlib.Core.List.{List, [], ◌∷◌}
 use mathlib.Core.Bool.{true, false}
 use Rattle.eno.specs.Suboption.{Suboption, globals, global_byte}
 use Rattle.suboption_list.specs.List.{suboption_of}
-use Rattle.suboption_list.specs.Left.{is_global, is_tep}
+use Rattle.suboption_list.proofs.Left.{is_global, is_tep}
 use Rattle.suboption_list.specs.declared.SuboptionItem.{SuboptionItem}
 
 -- the first global byte

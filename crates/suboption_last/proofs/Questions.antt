@@ -5,7 +5,7 @@ use native.Mathlib.Omega.{arith}
 use borrow.Author.Tests.{eq-eqb, ne_eqb}
 use lib.ListN.{get_or}
 use Rattle.suboption_list.specs.List.{most_items, filler, count_of, last_item}
-use Rattle.suboption_list.specs.Laws.{count_within, count_above}
+use Rattle.suboption_list.proofs.Laws.{count_within, count_above}
 use Rattle.suboption_list.specs.declared.SuboptionList.{SuboptionList}
 
 -- the last of a list

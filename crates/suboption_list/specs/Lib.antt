@@ -1,4 +1,3 @@
 -- The suboptions of an option as a list in an array.
 pub mod List
-pub mod Laws
 pub mod Left

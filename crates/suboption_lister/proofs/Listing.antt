@@ -6,11 +6,11 @@ use native.Mathlib.Omega.{arith}
 use lib.ListN.{length, set, replicate, length-append}
 use Rattle.eno.specs.Walk.{end, fault, item, Reading, readable, faulty, before, items_of}
 use Rattle.eno.specs.Suboption.{Sent, Suboption, tep, suboption_at, suboptions}
-use Rattle.eno.specs.Laws.Walk.{unroll_end, unroll_fault, unroll_item}
-use Rattle.eno.specs.Laws.Suboption.{suboption_onward}
+use Rattle.eno.proofs.Laws.Walk.{unroll_end, unroll_fault, unroll_item}
+use Rattle.eno.proofs.Laws.Suboption.{suboption_onward}
 use Rattle.suboption.specs.Within.{tep_ends}
 use Rattle.suboption_list.specs.List.{most_items, item_of, filler, array_of, list_as, list_with, broken_list, listed_of, list_of}
-use Rattle.suboption_list.specs.Laws.{append_nil, append_one, array_more, list_within}
+use Rattle.suboption_list.proofs.Laws.{append_nil, append_one, array_more, list_within}
 use Rattle.suboption_list.specs.declared.SuboptionItem.{SuboptionItem}
 
 -- suboptions that were met before the rest

@@ -9,7 +9,7 @@ use lib.ListN.{length}
 use Rattle.eno.specs.Suboption.{Suboption, teps}
 use Rattle.eno.specs.Judge.{named}
 use Rattle.suboption_list.specs.List.{filler, sent_of, suboption_of, is_named, first_item}
-use Rattle.suboption_list.specs.Left.{as_sent_lem}
+use Rattle.suboption_list.proofs.Left.{as_sent_lem}
 use Rattle.suboption_list.specs.declared.SuboptionItem.{SuboptionItem}
 
 pub at_most_one : (n : ℕ) (b : Bool) → n ≡ cond b 1 0 → n ≤ 1

@@ -8,11 +8,11 @@ use lib.Dec.{eqb}
 use lib.ListN.{length, get_or, set, length-set, replicate}
 use Rattle.eno.specs.Walk.{end, fault, item, Reading, readable, faulty, before, items_of}
 use Rattle.eno.specs.Suboption.{Sent, Suboption, global, tep, suboption_at, suboptions, globals, global_byte, role_bit, aware_bit, teps, name}
-use Rattle.eno.specs.Laws.Walk.{unroll_end, unroll_fault, unroll_item}
-use Rattle.eno.specs.Laws.Suboption.{suboption_onward}
+use Rattle.eno.proofs.Laws.Walk.{unroll_end, unroll_fault, unroll_item}
+use Rattle.eno.proofs.Laws.Suboption.{suboption_onward}
 use Rattle.suboption.specs.Within.{tep_ends}
 use Rattle.suboptions.specs.Summary.{never, again, entries_from, entries_of, ill_formed, summed, summary_of}
-use Rattle.suboptions.specs.Laws.{summary_within}
+use Rattle.suboptions.proofs.Laws.{summary_within}
 use Rattle.suboptions.specs.declared.Entry.{Entry}
 use Rattle.suboptions.specs.declared.Summary.{Summary}
 use Rattle.suboption_summary.proofs.Entries.{entries_nil, entries_other, entries_known, bounded_set}

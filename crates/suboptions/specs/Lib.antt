@@ -2,4 +2,3 @@
 pub mod Summary
 pub mod Laws
 pub mod Finds
-pub mod Examples

@@ -1,7 +1,6 @@
 -- Laws of lists, of the pool and of the calls, for the theorems.
 pub mod Lists
 pub mod Pool
-pub mod Marks
 pub mod Owned
 pub mod Calls
 pub mod Deeds

@@ -18,8 +18,6 @@ pub mod Confirmed
 pub mod Openings
 pub mod AcceptedStores
 pub mod Seen
-pub mod SeenLedger
-pub mod SeenBound
 pub mod Connections
 pub mod Stories
 pub mod Confirmations

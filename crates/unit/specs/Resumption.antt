@@ -1,7 +1,7 @@
 -- Demand 2, for lists of calls: for a door, no record's identifier opens more resumed connections than times it was stored.
-use Rattle.std.specs.Prelude.{◌≡◌, Bool, cond, not, ◌&&◌, ◌||◌, length, get_or}
+use Rattle.std.specs.Prelude.{◌≡◌, Bool, cond, ◌&&◌, ◌||◌, length, get_or}
 use Rattle.std.proofs.Math.Path.{refl, ap}
-use Rattle.std.proofs.Common.{sym, ap₂, ◌∙◌, subst, ltb-true}
+use Rattle.std.proofs.Common.{◌∙◌, ltb-true}
 use Rattle.std.proofs.Math.Bool.{true, false}
 use Rattle.std.proofs.Math.Option.{Option, none, some}
 use mathlib.Core.List.{List, [], ◌∷◌, ◌++◌}
@@ -10,16 +10,15 @@ use native.Mathlib.Omega.{arith}
 use Rattle.std.proofs.lemmas.Bool.{not-false}
 use Rattle.std.proofs.Math.Dec.{ltb}
 use Rattle.eno.specs.declared.Cause.{Cause}
-use Rattle.wire.specs.Bytes.{same_bytes}
 use Rattle.eno.specs.Area.{syn_option}
 use Rattle.eno.specs.Session.{in_hand}
 use Rattle.eno.specs.Judge as judged
-use Rattle.eno.specs.Judge.{Way, Judged, encrypt, judge}
+use Rattle.eno.specs.Judge.{Judged, encrypt, judge}
 use Rattle.eno.specs.declared.SessionRecord.{SessionRecord}
 use Rattle.eno.specs.declared.InHand.{InHand}
 use Rattle.door.specs.Door.{Phase, idle, offering, crossed, answering, opened, unencrypted, phase_of, own_option, empty_hand, hand_of, idle_door, Seen}
 use Rattle.door.specs.Record.{past_end, record_at, first_that, is_session}
-use Rattle.door.specs.Outcome.{Reply, refused, written, plain, now_in, encrypted, done, holds, Outcome, Effect, keep, add, remove, refusal, unless}
+use Rattle.door.specs.Outcome.{Reply, refused, written, plain, now_in, encrypted, done, holds, Outcome, keep, add, remove, unless}
 use Rattle.door.specs.Offer as o
 use Rattle.door.specs.Offer.{offered_door}
 use Rattle.door.specs.Answer as a
@@ -31,12 +30,9 @@ use Rattle.door.specs.Records.{is_held}
 use Rattle.door.specs.Calls.{Ask, offer, answer, receive, resend, result, close, store, forget, count, outcome, cut, effected}
 use Rattle.door.specs.Calls as door
 use Rattle.door.specs.declared.Door.{Door}
-use Rattle.unit.specs.Numbers.{doors_n}
-use Rattle.unit.specs.Unit.{empty_unit, view}
-use Rattle.unit.specs.Run.{Call, on, erase, Moment, moments, strike}
+use Rattle.unit.specs.Run.{Call, on, erase, Moment}
 use Rattle.unit.specs.Laws.Calls.{unless_law}
-use Rattle.unit.specs.Invariant.{empty_inv}
-use Rattle.unit.specs.Isolation.{idle_view, view_empty, moments_of, moments_are}
+use Rattle.unit.specs.Isolation.{idle_view, moments_of}
 
 abbrev pub one : Bool → ℕ
 one true = 1
@@ -117,7 +113,7 @@ module _ (p : SessionRecord → Bool) where
   tally_cut (suc j) (x ∷ l) h = omega (arith, tally_cut j l (omega arith))
 
   -- what is left to open: each record held, and the one in hand of a connection that is not open yet
-  abbrev unopened : Bool → ℕ → ℕ
+  abbrev pub unopened : Bool → ℕ → ℕ
   unopened true n = 0
   unopened false n = n
 
@@ -190,7 +186,7 @@ module _ (p : SessionRecord → Bool) where
   tame_judged d q o (encrypt role byte way t) e = tame_then d (judged_door d o role byte way) q e (omega arith)
 
   -- an open door only stays as it is
-  abbrev ClosedFor : Turn → Door → Type 0
+  abbrev pub ClosedFor : Turn → Door → Type 0
   ClosedFor (judging q) d = is_open_now d ≡ false
   ClosedFor (comparing q) d = is_open_now d ≡ false
   ClosedFor presence d = is_open_now d ≡ false
@@ -300,10 +296,3 @@ module _ (p : SessionRecord → Bool) where
   run_bounded v [] = omega arith
   run_bounded v (erase ∷ cs) = omega (arith, run_bounded idle_view cs, left_idle)
   run_bounded v (on d q ∷ cs) = omega (arith, run_bounded (door.after v (outcome true v q)) cs, outcome_bounded v q)
-
--- for each door and identifier, over every list of calls from the empty unit: the connections that opened resumed with it are no more than its accepted stores
-pub no_more_than_stored : (d : ℕ) → d < doors_n → (cs : List Call) (identifier : List ℕ)
-    → opens (λ (s : SessionRecord). same_bytes identifier s.identifier) (moments empty_unit d cs) ≤ stores (λ (s : SessionRecord). same_bytes identifier s.identifier) (moments empty_unit d cs)
-no_more_than_stored d h cs identifier =
-    let q : SessionRecord → Bool = λ s. same_bytes identifier s.identifier in
-    rw (moments_are d h empty_unit empty_inv cs, view_empty d h) (omega (arith, run_bounded q idle_view (strike d cs), left_idle q))

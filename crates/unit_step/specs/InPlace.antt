@@ -19,14 +19,16 @@ use Rattle.unit.specs.Numbers.{doors_n, rows_n, words_n}
 use Rattle.unit.specs.Marks.{marks_in}
 use Rattle.unit.specs.Unit.{view, first_free, is_free}
 use Rattle.unit.specs.Run.{on, step}
-use Rattle.unit.specs.Laws.Calls.{Fits, outcome_fits}
+use Rattle.unit.specs.Laws.Calls.{Fits}
+use Rattle.unit.proofs.Laws.Calls.{outcome_fits}
 use Rattle.unit.specs.declared.Position.{Position}
 use Rattle.unit.specs.declared.LinkUnit.{LinkUnit}
 use Rattle.unit_bytes.specs.Content.{unit_in}
 use Rattle.pool.specs.Carried.{view_at, enact_fit, takes_row}
 use Rattle.pool.specs.Placed.{position_from, Put, seen_in, Enacts}
-use Rattle.pool.specs.PlacedLaws.{with_door, position_from_lem, put_keeps}
-use Rattle.pool.specs.Enacting.{enacts_carried}
+use Rattle.pool.specs.PlacedLaws.{with_door}
+use Rattle.pool.proofs.PlacedLaws.{position_from_lem, put_keeps}
+use Rattle.pool.proofs.Enacting.{enacts_carried}
 use Rattle.unit_step.specs.Stepping.{step_as, view_of, step_carried, step_told_free, step_kept, step_seen}
 
 -- what door d sees, with its own data in hand

@@ -16,10 +16,12 @@ use Rattle.unit.specs.Numbers.{doors_n, rows_n}
 use Rattle.unit.specs.Unit.{position_at, mine, records_at, view, lowest_free, is_free, marks_after, rows_after, enact}
 use Rattle.unit.specs.Run.{on, Step, carried, step}
 use Rattle.unit.specs.Marks.{marks_in}
-use Rattle.unit.specs.Marked.{mark_of, takes_lowest, frees_its_row}
+use Rattle.unit.specs.Marked.{mark_of}
+use Rattle.unit.proofs.Marked.{takes_lowest, frees_its_row}
 use Rattle.unit.specs.Laws.Lists.{In}
-use Rattle.unit.specs.Laws.Calls.{Fits, outcome_fits, unless_law}
-use Rattle.unit.specs.Refusals.{keep_changes_nothing}
+use Rattle.unit.specs.Laws.Calls.{Fits, unless_law}
+use Rattle.unit.proofs.Laws.Calls.{outcome_fits}
+use Rattle.unit.proofs.Refusals.{keep_changes_nothing}
 use Rattle.unit.specs.declared.LinkUnit.{LinkUnit}
 use Rattle.unit_step.specs.Stepping.{step_past, step_is}
 

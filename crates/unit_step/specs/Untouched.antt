@@ -12,22 +12,25 @@ use Rattle.door.specs.declared.Reply as code
 use Rattle.unit.specs.Numbers.{doors_n, rows_n, words_n}
 use Rattle.unit.specs.Unit.{empty_unit, position_at, mine}
 use Rattle.unit.specs.Run.{Call, on, Step, step, after}
-use Rattle.unit.specs.Refusals.{refusal_leaves}
-use Rattle.unit.specs.Invariant.{Inv, empty_inv}
-use Rattle.unit.specs.Isolation.{inv_after}
-use Rattle.unit.specs.History.{after_one}
+use Rattle.unit.proofs.Refusals.{refusal_leaves}
+use Rattle.unit.specs.Invariant.{Inv}
+use Rattle.unit.proofs.Invariant.{empty_inv}
+use Rattle.unit.proofs.Isolation.{inv_after}
+use Rattle.unit.proofs.History.{after_one}
 use Rattle.unit.specs.Marks.{marks_in}
-use Rattle.unit.specs.Marked.{mark_of, used_marked}
+use Rattle.unit.specs.Marked.{mark_of}
+use Rattle.unit.proofs.Marked.{used_marked}
 use Rattle.unit.specs.Laws.Lists.{In}
-use Rattle.unit.specs.Laws.Owned.{in_own}
+use Rattle.unit.proofs.Laws.Owned.{in_own}
 use Rattle.unit.specs.declared.LinkUnit.{LinkUnit}
 use Rattle.unit_bytes.specs.Layout.{row_size, door_size}
 use Rattle.unit_bytes.specs.Content.{unit_in}
-use Rattle.unit_bytes.specs.Whole.{row_in}
-use Rattle.unit_bytes.specs.Tells.{Tidy, flags_stay, row_tells, Sized, AllTidy, erased_tidy, Same, marks_in_lem, unit_tells}
+use Rattle.unit_bytes.proofs.Whole.{row_in}
+use Rattle.unit_bytes.specs.Tells.{Tidy, Sized, AllTidy, Same}
+use Rattle.unit_bytes.proofs.Tells.{flags_stay, row_tells, erased_tidy, marks_in_lem, unit_tells}
 use Rattle.pool.specs.Placed.{Erased, DoorsKept}
-use Rattle.pool.specs.PlacedLaws.{doors_same}
-use Rattle.pool.specs.EveryByte.{every_byte}
+use Rattle.pool.proofs.PlacedLaws.{doors_same}
+use Rattle.pool.proofs.EveryByte.{every_byte}
 use Rattle.unit_step.specs.Steps.{step_of, result_of}
 use Rattle.unit_step.specs.Stepping.{step_as}
 use Rattle.unit_step.specs.StepRows.{OneRow, none, taken, freed, step_rows, Looks, looks_leave_the_unit}

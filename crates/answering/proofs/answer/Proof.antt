@@ -8,7 +8,7 @@ use Rattle.eno.specs.Area.{syn_option}
 use Rattle.door.specs.Answer.{answering}
 use Rattle.tep_choice.specs.Choosing.{decision_of}
 use Rattle.opening.specs.Laws.Terms.{terms_list}
-use Rattle.eno.specs.Laws.Found.{found_short}
+use Rattle.eno.proofs.Laws.Found.{found_short}
 use Rattle.deciding.specs.Laws.{decided_is}
 use Rattle.opening.specs.Laws.Outcomes.{refuses}
 use Rattle.answering.proofs.Outcomes.{answer_long, answer_terms_lem, answer_turn, answer_plain, answer_with_lem, answer_fits_lem}

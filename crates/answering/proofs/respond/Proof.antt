@@ -8,7 +8,7 @@ use native.Mathlib.Omega.{arith}
 use borrow.Author.Rules.{rules}
 use lib.ListN.{take, drop}
 use Rattle.eno.specs.Option.{Content, answered, written_as, write_option}
-use Rattle.eno.specs.Laws.Asked.{answer_may_be_asked}
+use Rattle.eno.proofs.Laws.Asked.{answer_may_be_asked}
 use Rattle.opening.specs.Steps.{taking}
 use Rattle.answering.specs.Steps.{door_answered}
 use Rattle.opening.specs.Laws.Writing.{Wrote, said_wrote, said_no_room, said_unfit, within, written_option, written_short, answer_said}

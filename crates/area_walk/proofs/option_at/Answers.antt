@@ -1,7 +1,7 @@
 -- `option_at` meets its contract: each answer is one case of `option_at`.
 use Prim.Native.Nat.{◌+◌}
 use native.Mathlib.Omega.{arith}
-use Rattle.eno.specs.Laws.Area.{option_end, option_zero, option_one, option_cut, option_short, option_over, option_long}
+use Rattle.eno.proofs.Laws.Area.{option_end, option_zero, option_one, option_cut, option_short, option_over, option_long}
 use Rattle.area_walk.proofs.option_at.Goals as goal
 
 pub returns-then-area-i : goal.returns-then-area-i

@@ -1,6 +1,6 @@
 -- `door_reader::is_set` meets its contract.
 use native.Mathlib.Omega.{arith}
-use Rattle.unit_bytes.specs.Laws.{no_flag, a_flag}
+use Rattle.unit_bytes.proofs.Laws.{no_flag, a_flag}
 use Rattle.door_reader.proofs.is_set.Statement.{statement}
 use Rattle.door_reader.proofs.is_set.Tie as tie
 use Rattle.door_reader.proofs.is_set.Reads as reads

@@ -4,7 +4,7 @@ use lib.ListN.{length, replicate}
 use native.Mathlib.Omega.{arith}
 use Rattle.wire.specs.Bytes.{part}
 use Rattle.unit_bytes.specs.Layout.{door_size, own_at, peer_at, identifier_at, secret_at}
-use Rattle.unit_bytes.specs.Laws.{copied_part, read_position}
+use Rattle.unit_bytes.proofs.Laws.{copied_part, read_position}
 use borrow.Author.Rules.{rules}
 use Rattle.door_reader.proofs.position_of.Statement.{statement}
 use Rattle.door_reader.proofs.position_of.Tie as tie

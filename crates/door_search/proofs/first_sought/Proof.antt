@@ -11,7 +11,7 @@ use Rattle.door.specs.Numbers.{each_n}
 use Rattle.door.specs.Record.{first_that, past_end}
 use Rattle.door.specs.Door.{seen_of}
 use Rattle.door_search.specs.Search.{is_sought}
-use Rattle.door.specs.Laws.First.{seen_at, first_here, first_later, first_nowhere}
+use Rattle.door.proofs.Laws.First.{seen_at, first_here, first_later, first_nowhere}
 use Rattle.door_search.proofs.first_sought.Statement.{statement}
 use Rattle.door_search.proofs.first_sought.Tie as tie
 

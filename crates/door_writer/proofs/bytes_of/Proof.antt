@@ -3,7 +3,7 @@ use mathlib.Core.Path.{◌≡◌, refl, ◌∙◌, ap}
 use lib.ListN.{length}
 use Rattle.unit_bytes.specs.Layout.{door_size}
 use Rattle.unit_bytes.specs.Content.{position_in, bytes_of}
-use Rattle.unit_bytes.specs.Laws.{written_place, position_read}
+use Rattle.unit_bytes.proofs.Laws.{written_place, position_read}
 use borrow.Author.Rules.{rules}
 use Rattle.door_writer.proofs.bytes_of.Statement.{statement}
 use Rattle.door_writer.proofs.bytes_of.Tie as tie

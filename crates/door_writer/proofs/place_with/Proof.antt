@@ -2,7 +2,7 @@
 use mathlib.Core.Path.{◌≡◌, refl}
 use lib.ListN.{length, replicate}
 use Rattle.unit_bytes.specs.Layout.{door_size, numbers_size}
-use Rattle.unit_bytes.specs.Laws.{place_pieces}
+use Rattle.unit_bytes.proofs.Laws.{place_pieces}
 use borrow.Author.Rules.{rules}
 use Rattle.door_writer.proofs.place_with.Statement.{statement}
 use Rattle.door_writer.proofs.place_with.Tie as tie

@@ -1,5 +1,5 @@
 -- `frame_header::put_three` meets its contract.
-use Rattle.frame_layout.specs.LayoutLaws.{three_put}
+use Rattle.frame_layout.proofs.LayoutLaws.{three_put}
 use borrow.Author.Rules.{rules}
 use Rattle.frame_header.proofs.put_three.Statement.{statement}
 use Rattle.frame_header.proofs.put_three.Tie as tie

@@ -3,7 +3,7 @@ use native.Mathlib.Omega.{arith}
 use mathlib.Core.Path.{sym, ◌∙◌, ap}
 use Rattle.frame_header.proofs.Headers.{header_over, header_none, header_put}
 use Rattle.frame_offset.proofs.Next.{next_told_lem}
-use Rattle.frame_layout.specs.LayoutLaws.{frame_fits}
+use Rattle.frame_layout.proofs.LayoutLaws.{frame_fits}
 use Rattle.frame_layout.specs.Answers.{next_told}
 use borrow.Author.Rules.{rules}
 use Rattle.frame_header.proofs.write_header.Statement.{statement}

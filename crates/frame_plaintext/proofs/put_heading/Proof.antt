@@ -1,7 +1,7 @@
 -- `frame_plaintext::put_heading` meets its contract.
 use native.Mathlib.Omega.{arith}
 use borrow.Author.Tests.{not-true, not-false}
-use Rattle.frame_layout.specs.LayoutLaws.{three_put}
+use Rattle.frame_layout.proofs.LayoutLaws.{three_put}
 use Rattle.frame_plaintext.proofs.Plaintexts.{heading_three, put_urg, put_bare}
 use borrow.Author.Rules.{rules}
 use Rattle.frame_plaintext.proofs.put_heading.Statement.{statement}

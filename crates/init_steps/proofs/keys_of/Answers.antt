@@ -2,7 +2,7 @@
 use mathlib.Core.Path.{ap}
 use native.Mathlib.Omega.{arith}
 use Rattle.eno.specs.Tep.{tep_of}
-use Rattle.init_layout.specs.Refusals.{keys_few}
+use Rattle.init_layout.proofs.Refusals.{keys_few}
 use Rattle.init_steps.proofs.keys_of.Goals as goal
 
 pub returns : goal.returns

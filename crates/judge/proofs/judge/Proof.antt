@@ -1,6 +1,6 @@
 -- `judge` meets its contract.
 use native.Mathlib.Omega.{arith}
-use Rattle.eno.specs.Laws.Found.{found_short}
+use Rattle.eno.proofs.Laws.Found.{found_short}
 use Rattle.judge_missed.specs.Laws.{judge_missed_own, judge_missed_peer}
 use Rattle.judge_quick.specs.Laws.Cases.{judge_ill_own, judge_ill_peer, judge_equal, judge_unaware, judge_negotiated}
 use borrow.Author.Rules.{rules}

@@ -8,11 +8,12 @@ use Rattle.eno.specs.Area.{finding, part_of}
 use Rattle.eno.specs.Cause.{numbered}
 use Rattle.eno.specs.Suboption.{suboptions, is_ill_formed}
 use Rattle.eno.specs.Judge.{of_a, of_b, Judged, plain, negotiate, role_of, aware_of, teps_of, judge}
-use Rattle.eno.specs.Laws.Found.{found_short}
-use Rattle.eno.specs.Laws.Tests.{aware_or_not}
+use Rattle.eno.proofs.Laws.Found.{found_short}
+use Rattle.eno.proofs.Laws.Tests.{aware_or_not}
 use Rattle.eno.specs.declared.SessionRecord.{SessionRecord}
 use Rattle.suboptions.specs.Summary.{entries_of, summary_of}
-use Rattle.suboptions.specs.Laws.{saying, summary_says}
+use Rattle.suboptions.specs.Laws.{saying}
+use Rattle.suboptions.proofs.Laws.{summary_says}
 use Rattle.suboptions.specs.declared.Summary.{Summary}
 use Rattle.valid_tep.specs.Best.{best_of}
 use Rattle.valid_tep.specs.declared.Best.{Best}

@@ -11,12 +11,14 @@ use Rattle.eno.specs.Area.{Finding, refused, unreadable, missing, found, finding
 use Rattle.eno.specs.Suboption.{Sent, name, suboptions, is_ill_formed, aware_bit, global_byte}
 use Rattle.eno.specs.Walk.{listed}
 use Rattle.eno.specs.Judge.{Way, way_if, named, of_a, of_b, Sides, teps_of, validity, Negotiated, last_valid, Judged, refuse, plain, encrypt, agreed, negotiate, first_of, is_unreadable, is_missing, too_long, role_of, aware_of, judge}
-use Rattle.eno.specs.Laws.Found.{found_option}
-use Rattle.eno.specs.Laws.Tests.{named_there}
-use Rattle.eno.specs.Laws.Teps.{In, in_every, Ordered, Stood, teps_stand, teps_ordered}
+use Rattle.eno.proofs.Laws.Found.{found_option}
+use Rattle.eno.proofs.Laws.Tests.{named_there}
+use Rattle.eno.specs.Laws.Teps.{In, Ordered, Stood}
+use Rattle.eno.proofs.Laws.Teps.{in_every, teps_stand, teps_ordered}
 use Rattle.eno.specs.declared.SessionRecord.{SessionRecord}
 use Rattle.suboptions.specs.Summary.{entries_of, summary_of}
-use Rattle.suboptions.specs.Laws.{saying, summary_says}
+use Rattle.suboptions.specs.Laws.{saying}
+use Rattle.suboptions.proofs.Laws.{summary_says}
 use Rattle.suboptions.specs.declared.Entry.{Entry}
 use Rattle.suboptions.specs.declared.Summary.{Summary}
 use Rattle.judgement.specs.Answers.{judged_of, transcript_of, most_transcript, padded, without_transcript, Judges}

@@ -12,7 +12,8 @@ use native.Mathlib.Omega.{arith}
 use Rattle.std.proofs.Math.Decide.{dec_lt, ℕ_discrete}
 use Rattle.eno.specs.Suboption.{Sent, name}
 use Rattle.eno.specs.Judge.{Way, fresh, resumed, way_if, is_resumed, Negotiated, negotiated_by, or_else, last_valid}
-use Rattle.eno.specs.Laws.Teps.{In, Ordered, ordered_in}
+use Rattle.eno.specs.Laws.Teps.{In, Ordered}
+use Rattle.eno.proofs.Laws.Teps.{ordered_in}
 use Rattle.valid_tep.specs.Best.{found_at, none_yet, is_later, resumed_by, better_of, best_from}
 use Rattle.valid_tep.specs.declared.Best.{Best}
 

@@ -13,12 +13,12 @@ use Rattle.eno.specs.Suboption.{Sent, name}
 use Rattle.eno.specs.Tep.{is_known}
 use Rattle.eno.specs.Session.{sent_half, expected_half}
 use Rattle.eno.specs.Judge.{is_fresh, is_bad, is_resumption, half_of, Way, fresh, resumed, matches, named, once, of_a, of_b, Sides, way_of, way_of_both, teps_of, validity}
-use Rattle.eno.specs.Laws.Tep.{known_yes}
-use Rattle.eno.specs.Laws.Tests.{known_range}
+use Rattle.eno.proofs.Laws.Tep.{known_yes}
+use Rattle.eno.proofs.Laws.Tests.{known_range}
 use Rattle.eno.specs.Laws.Teps.{In}
 use Rattle.eno.specs.declared.SessionRecord.{SessionRecord}
 use Rattle.suboptions.specs.Summary.{never, entry_from, entries_of, as_sent}
-use Rattle.suboptions.specs.Laws.{entry_of_lem, entry_times, entry_once}
+use Rattle.suboptions.proofs.Laws.{entry_of_lem, entry_times, entry_once}
 use Rattle.suboptions.specs.declared.Entry.{Entry}
 use Rattle.valid_tep.specs.Best.{starts_b, matches_at, way_of_entries, entry_at, ways_of, starts_of}
 

@@ -6,7 +6,7 @@ use Rattle.eno.specs.Area.{finding, part_of, syn_option}
 use Rattle.eno.specs.Cause.{numbered}
 use Rattle.eno.specs.Suboption.{suboptions, is_ill_formed}
 use Rattle.eno.specs.Judge.{of_a, of_b, Sides, plain, negotiate, first_of, role_of, aware_of, judge}
-use Rattle.eno.specs.Laws.Tests.{is_found}
+use Rattle.eno.proofs.Laws.Tests.{is_found}
 use Rattle.eno.specs.declared.SessionRecord.{SessionRecord}
 
 -- what this end judges by

@@ -3,7 +3,7 @@ use mathlib.Core.Path.{refl, sym}
 use lib.Seq.{length-take-le}
 use native.Mathlib.Omega.{arith}
 use borrow.Author.Tests.{not-true, not-false}
-use Rattle.eno.specs.Laws.Tests.{known_range}
+use Rattle.eno.proofs.Laws.Tests.{known_range}
 use Rattle.key_terms.proofs.Cutting.{known_told, unfit_role, unfit_tep, unfit_identifier, no_second_byte, cut_short, at_a, at_b}
 use borrow.Author.Rules.{rules}
 use Rattle.key_terms.proofs.resumption_terms.Statement.{statement}

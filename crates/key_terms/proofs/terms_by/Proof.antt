@@ -1,7 +1,8 @@
 -- `key_terms::terms_by` meets its contract.
 use mathlib.Core.Path.{sym, ◌∙◌, ap}
 use native.Mathlib.Omega.{arith}
-use Rattle.key_terms.specs.Laws.{DataFits, data_fits}
+use Rattle.key_terms.specs.Laws.{DataFits}
+use Rattle.key_terms.proofs.Laws.{data_fits}
 use Rattle.key_terms.specs.Answers.{data_as, role_as}
 use Rattle.key_terms.proofs.Giving.{own_none, peer_none, gives_none, role_untold, gives_a, gives_b}
 use borrow.Author.Rules.{rules}

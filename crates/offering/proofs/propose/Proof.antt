@@ -8,7 +8,7 @@ use native.Mathlib.Omega.{arith}
 use borrow.Author.Rules.{rules}
 use lib.ListN.{take, drop}
 use Rattle.eno.specs.Option.{Content, offered, written_as, write_option}
-use Rattle.eno.specs.Laws.Asked.{offer_may_be_asked}
+use Rattle.eno.proofs.Laws.Asked.{offer_may_be_asked}
 use Rattle.opening.specs.Steps.{taking}
 use Rattle.door.specs.Offer.{door_offered}
 use Rattle.opening.specs.Laws.Writing.{Wrote, said_wrote, said_no_room, said_unfit, within, written_option, written_short, offer_said}

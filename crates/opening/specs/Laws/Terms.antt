@@ -4,7 +4,7 @@ use Rattle.std.proofs.Math.Bool.{not}
 use borrow.Author.Tests.{leb-true}
 use Rattle.std.proofs.Math.Dec.{leb}
 use Rattle.eno.specs.Option.{is_tep_list}
-use Rattle.eno.specs.Laws.Asked.{and_true}
+use Rattle.eno.proofs.Laws.Asked.{and_true}
 use Rattle.door.specs.Offer.{terms_fit}
 
 module _ (aware mandatory : Bool) (list nonce : List ℕ) (fit : terms_fit aware mandatory list nonce ≡ true) where

@@ -13,7 +13,8 @@ use Rattle.wire.specs.Bytes.{part, pasted}
 use Rattle.wire.specs.ByteLaws.{pasted_fits, length_pasted, part_pasted}
 use Rattle.eno.specs.Session.{in_hand}
 use Rattle.eno.specs.Option.{Content, option_with, record_listed, offered, answered, offer_fits, answer_fits, Written, written_as, wrote, refused_with, write_option, write_offer, write_answer}
-use Rattle.eno.specs.Laws.Asked.{MayBeAsked, and_true, is_tep}
+use Rattle.eno.specs.Laws.Asked.{MayBeAsked}
+use Rattle.eno.proofs.Laws.Asked.{and_true, is_tep}
 use Rattle.eno.specs.declared.SessionRecord.{SessionRecord}
 use Rattle.eno.specs.declared.InHand.{InHand}
 use Rattle.option_writer.specs.Answers.{writing_of}

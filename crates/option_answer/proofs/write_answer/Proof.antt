@@ -1,7 +1,7 @@
 -- `option_answer::write_answer` meets its contract.
 use mathlib.Core.Path.{sym, ◌∙◌}
 use borrow.Author.Rules.{rules}
-use Rattle.eno.specs.Laws.Asked.{answer_is_offer}
+use Rattle.eno.proofs.Laws.Asked.{answer_is_offer}
 use Rattle.option_answer.proofs.write_answer.Statement.{statement}
 use Rattle.option_answer.proofs.write_answer.Tie as tie
 

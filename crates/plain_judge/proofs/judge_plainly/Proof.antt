@@ -1,6 +1,6 @@
 -- `judge_plainly` meets its contract.
 use native.Mathlib.Omega.{arith}
-use Rattle.eno.specs.Laws.Found.{found_short}
+use Rattle.eno.proofs.Laws.Found.{found_short}
 use Rattle.judge_missed.specs.Laws.{judge_missed_own, judge_missed_peer}
 use Rattle.plain_judge.proofs.Cases.{plain_ill_own, plain_ill_peer, plain_equal, plain_unaware, plain_negotiated}
 use borrow.Author.Rules.{rules}

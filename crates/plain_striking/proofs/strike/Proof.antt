@@ -6,7 +6,7 @@ use Rattle.eno.specs.Suboption.{teps}
 use Rattle.eno.specs.Session.{in_hand}
 use Rattle.judgement.specs.Laws.Found.{sides_of}
 use Rattle.suboption_list.specs.List.{most_items, items_in}
-use Rattle.suboption_list.specs.Left.{left_end, left_most}
+use Rattle.suboption_list.proofs.Left.{left_end, left_most}
 use Rattle.plain_validity.specs.Validity.{validity_in}
 use Rattle.plain_striking.proofs.Struck.{Struck, struck_start, struck_stays, struck_goes, struck_end}
 use borrow.Author.Rules.{rules}

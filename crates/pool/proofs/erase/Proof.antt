@@ -1,7 +1,7 @@
 -- `pool::erase` meets its contract.
 use mathlib.Core.Path.{refl}
 use Rattle.unit.specs.Numbers.{doors_n, rows_n, word_n, words_n}
-use Rattle.unit_bytes.specs.Whole.{erased}
+use Rattle.unit_bytes.proofs.Whole.{erased}
 use Rattle.pool.proofs.erase.Statement.{statement}
 use Rattle.pool.proofs.erase.Tie as tie
 use Rattle.pool.proofs.erase.Reads as reads

@@ -1,7 +1,7 @@
 -- `pool_doors::position_at` meets its contract.
 use native.Mathlib.Omega.{arith}
 use Rattle.unit.specs.Numbers.{doors_n}
-use Rattle.pool.specs.PlacedLaws.{from_past, from_in}
+use Rattle.pool.proofs.PlacedLaws.{from_past, from_in}
 use borrow.Author.Rules.{rules}
 use Rattle.pool_doors.proofs.position_at.Statement.{statement}
 use Rattle.pool_doors.proofs.position_at.Tie as tie

@@ -1,7 +1,7 @@
 -- `pool_doors::put_door` meets its contract.
 use native.Mathlib.Omega.{arith}
 use Rattle.unit.specs.Numbers.{doors_n}
-use Rattle.pool.specs.PlacedLaws.{put_past, put_in}
+use Rattle.pool.proofs.PlacedLaws.{put_past, put_in}
 use borrow.Author.Rules.{rules}
 use Rattle.pool_doors.proofs.put_door.Statement.{statement}
 use Rattle.pool_doors.proofs.put_door.Tie as tie

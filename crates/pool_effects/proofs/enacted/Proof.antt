@@ -2,7 +2,7 @@
 use mathlib.Core.Path.{refl}
 use native.Mathlib.Omega.{arith}
 use Rattle.unit.specs.Numbers.{doors_n}
-use Rattle.pool.specs.PlacedLaws.{enacts_past, enacts_fit, enacts_unfit}
+use Rattle.pool.proofs.PlacedLaws.{enacts_past, enacts_fit, enacts_unfit}
 use borrow.Author.Rules.{rules}
 use Rattle.pool_effects.proofs.enacted.Statement.{statement}
 use Rattle.pool_effects.proofs.enacted.Tie as tie

@@ -1,7 +1,7 @@
 -- `pool_rows::put_row` meets its contract.
 use native.Mathlib.Omega.{arith}
 use Rattle.unit.specs.Numbers.{rows_n}
-use Rattle.pool.specs.PlacedLaws.{row_past, row_in_place}
+use Rattle.pool.proofs.PlacedLaws.{row_past, row_in_place}
 use borrow.Author.Rules.{rules}
 use Rattle.pool_rows.proofs.put_row.Statement.{statement}
 use Rattle.pool_rows.proofs.put_row.Tie as tie

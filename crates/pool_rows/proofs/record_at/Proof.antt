@@ -6,7 +6,7 @@ use native.Mathlib.Omega.{arith}
 use lib.ListN.{get_or}
 use Rattle.unit.specs.Numbers.{rows_n}
 use Rattle.unit_bytes.specs.Content.{record_in}
-use Rattle.pool.specs.Enacting.{record_past, record_there}
+use Rattle.pool.proofs.Enacting.{record_past, record_there}
 use borrow.Author.Rules.{rules}
 use Rattle.pool_rows.proofs.record_at.Statement.{statement}
 use Rattle.pool_rows.proofs.record_at.Tie as tie

@@ -10,7 +10,7 @@ use Rattle.door.specs.Numbers.{each_n}
 use Rattle.unit.specs.Unit.{count_of}
 use Rattle.unit_bytes.specs.Content.{rows_in}
 use Rattle.pool.specs.Placed.{gathered}
-use Rattle.pool.specs.Gathering.{gathered_none, gathered_more, view_gathered}
+use Rattle.pool.proofs.Gathering.{gathered_none, gathered_more, view_gathered}
 use Rattle.pool_views.proofs.view_of.Statement.{statement}
 use Rattle.pool_views.proofs.view_of.Tie as tie
 use Rattle.pool_views.proofs.view_of.Reads as reads

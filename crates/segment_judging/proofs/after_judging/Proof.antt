@@ -2,7 +2,7 @@
 use mathlib.Core.Path.{◌≡◌}
 use lib.ListN.{length, length-map}
 use native.Mathlib.Omega.{arith}
-use Rattle.eno.specs.Laws.Found.{found_short}
+use Rattle.eno.proofs.Laws.Found.{found_short}
 use Rattle.segment_judging.proofs.Judging.{judged_refused, judged_plain, judged_encrypted}
 use borrow.Author.Rules.{rules}
 use Rattle.segment_judging.proofs.after_judging.Statement.{statement}

@@ -1,6 +1,6 @@
 -- `suboption_at` meets its contract.
 use native.Mathlib.Omega.{arith}
-use Rattle.eno.specs.Laws.Suboption.{suboption_end, suboption_global, suboption_bare, suboption_to_end, suboption_no_tep, suboption_cut, suboption_over, suboption_counted}
+use Rattle.eno.proofs.Laws.Suboption.{suboption_end, suboption_global, suboption_bare, suboption_to_end, suboption_no_tep, suboption_cut, suboption_over, suboption_counted}
 use Rattle.suboption.proofs.suboption_at.Goals as goal
 
 pub returns-then-option-i : goal.returns-then-option-i

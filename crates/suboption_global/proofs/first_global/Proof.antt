@@ -5,7 +5,8 @@ use native.Mathlib.Omega.{arith}
 use borrow.Author.Tests.{not-true, not-false}
 use Rattle.eno.specs.Suboption.{global_byte}
 use Rattle.suboption_list.specs.List.{most_items, items_in}
-use Rattle.suboption_list.specs.Left.{at, left, left_all, left_item, left_end, left_most}
+use Rattle.suboption_list.specs.Left.{at}
+use Rattle.suboption_list.proofs.Left.{left, left_all, left_item, left_end, left_most}
 use Rattle.suboption_global.proofs.Questions.{global_here, global_next, global_none}
 use Rattle.suboption_global.proofs.first_global.Statement.{statement}
 use Rattle.suboption_global.proofs.first_global.Tie as tie

@@ -6,7 +6,7 @@ use borrow.Author.Rules.{rules}
 use lib.ListN.{length}
 use Rattle.eno.specs.Suboption.{suboption_at}
 use Rattle.suboption.specs.Piece.{piece_of}
-use Rattle.suboption_list.specs.Laws.{list_beyond}
+use Rattle.suboption_list.proofs.Laws.{list_beyond}
 use Rattle.suboption_lister.proofs.Listing.{Listing, listing_start, listing_onward, listing_room, listing_more, listing_fits, listing_ill_formed, listing_end}
 use Rattle.suboption_lister.proofs.list.Statement.{statement}
 use Rattle.suboption_lister.proofs.list.Tie as tie

@@ -5,7 +5,7 @@ use native.Mathlib.Omega.{arith}
 use Rattle.eno.specs.Suboption.{teps}
 use Rattle.eno.specs.Judge.{named}
 use Rattle.suboption_list.specs.List.{first_item}
-use Rattle.suboption_list.specs.Left.{left_all, left_item, left_end, left_most}
+use Rattle.suboption_list.proofs.Left.{left_all, left_item, left_end, left_most}
 use Rattle.suboption_named.proofs.Questions.{first_here, first_next, first_none}
 use Rattle.suboption_named.proofs.first_named.Goals as goal
 

@@ -4,7 +4,7 @@ use mathlib.Core.Path.{◌≡◌}
 use Rattle.eno.specs.Suboption.{teps}
 use Rattle.eno.specs.Judge.{named}
 use Rattle.suboption_list.specs.List.{most_items, items_in, first_item}
-use Rattle.suboption_list.specs.Left.{left}
+use Rattle.suboption_list.proofs.Left.{left}
 use Rattle.suboption_named.proofs.first_named.Given as goal
 
 abbrev pub invariant-loop-i : goal.invariant-loop-i

@@ -6,7 +6,7 @@ use lib.ListN.{length}
 use Rattle.eno.specs.Suboption.{teps}
 use Rattle.eno.specs.Judge.{named}
 use Rattle.suboption_list.specs.List.{items_in}
-use Rattle.suboption_list.specs.Left.{left_all, left_item, left_end, left_most}
+use Rattle.suboption_list.proofs.Left.{left_all, left_item, left_end, left_most}
 use Rattle.suboption_named.proofs.Questions.{at_most_one, times_next, times_end}
 use Rattle.suboption_named.proofs.times.Goals as goal
 

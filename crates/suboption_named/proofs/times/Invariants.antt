@@ -5,7 +5,7 @@ use lib.ListN.{length}
 use Rattle.eno.specs.Suboption.{teps}
 use Rattle.eno.specs.Judge.{named}
 use Rattle.suboption_list.specs.List.{most_items, items_in}
-use Rattle.suboption_list.specs.Left.{left}
+use Rattle.suboption_list.proofs.Left.{left}
 use Rattle.suboption_named.proofs.times.Given as goal
 
 abbrev pub invariant-loop-i : goal.invariant-loop-i

@@ -4,7 +4,7 @@ use mathlib.Core.Path.{sym, ◌∙◌, ap}
 use native.Mathlib.Omega.{arith}
 use Rattle.suboption.specs.Piece.{piece_of}
 use Rattle.suboptions.specs.Summary.{again}
-use Rattle.suboptions.specs.Laws.{summary_beyond}
+use Rattle.suboptions.proofs.Laws.{summary_beyond}
 use Rattle.suboption_summary.proofs.Told.{told_start, told_onward, told_fits, told_global, told_global_again, told_unknown, told_known, told_ill_formed, told_end}
 use Rattle.suboption_summary.proofs.summarize.Goals as goal
 

@@ -16,7 +16,7 @@ use Rattle.eno.specs.Laws.Walk.{Every}
 use Rattle.eno.specs.Laws.Asked.{IsTep}
 use Rattle.eno.specs.declared.SessionRecord.{SessionRecord}
 use Rattle.suboptions.specs.Summary.{never, entry_from, entries_of, as_sent}
-use Rattle.suboptions.specs.Laws.{entry_of_lem, entry_times, entry_once}
+use Rattle.suboptions.proofs.Laws.{entry_of_lem, entry_times, entry_once}
 use Rattle.suboptions.specs.declared.Entry.{Entry}
 use Rattle.door.specs.Record.{first_that}
 use Rattle.door.specs.Answer.{candidate, is_candidate, fitting_at, last_that, Choice, or_fresh, choose_tep, Answering, plain_for, with, chosen_or}

@@ -2,7 +2,7 @@
 use Rattle.std.specs.Prelude.{ℕ, ◌-◌, ◌≤◌, ◌<◌, ◌≡◌, List, cond, get_or}
 use Rattle.std.proofs.Common.{sym}
 use Rattle.eno.specs.Tep.{is_known}
-use Rattle.eno.specs.Laws.Tep.{known_yes, known_below, known_above}
+use Rattle.eno.proofs.Laws.Tep.{known_yes, known_below, known_above}
 use Rattle.suboptions.specs.Summary.{never}
 use Rattle.suboptions.specs.declared.Entry.{Entry}
 use Rattle.tep_choice.specs.Choosing.{entry_of}

@@ -4,7 +4,8 @@ use Rattle.std.proofs.Common.{◌∙◌, ap, ap₂, arith, take-suc}
 use Rattle.std.proofs.Math.Option.{Option, none, some}
 use Rattle.eno.specs.Option.{is_tep_list, known_once}
 use Rattle.eno.specs.Laws.Walk.{Every}
-use Rattle.eno.specs.Laws.Asked.{and_true, IsTep, all_teps}
+use Rattle.eno.specs.Laws.Asked.{IsTep}
+use Rattle.eno.proofs.Laws.Asked.{and_true, all_teps}
 use Rattle.door.specs.Answer.{last_that}
 
 -- a TEP list has known TEPs

@@ -1,7 +1,7 @@
 -- `unit_bytes::row_of` meets its contract.
 use mathlib.Core.Path.{◌∙◌, ap}
 use Rattle.unit_bytes.specs.Content.{record_in, row_of}
-use Rattle.unit_bytes.specs.Laws.{record_read}
+use Rattle.unit_bytes.proofs.Laws.{record_read}
 use Rattle.unit_bytes.proofs.row_of.Goals as goal
 
 pub returns : goal.returns

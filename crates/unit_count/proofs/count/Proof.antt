@@ -2,7 +2,7 @@
 use Rattle.unit_step.specs.InPlace.{step_counted}
 use Rattle.door.specs.Door.{seen_of}
 use Rattle.door.specs.Calls.{count, outcome}
-use Rattle.pool.specs.PlacedLaws.{doors_same, put_kept}
+use Rattle.pool.proofs.PlacedLaws.{doors_same, put_kept}
 use Rattle.unit_step.specs.Stepping.{step_past}
 use Rattle.unit_bytes.specs.Content.{unit_in}
 use Rattle.unit.specs.Numbers.{doors_n, rows_n}

@@ -1,5 +1,5 @@
 -- `unit_receive::receive` meets its contract.
-use Rattle.pool.specs.PlacedLaws.{doors_same, put_kept}
+use Rattle.pool.proofs.PlacedLaws.{doors_same, put_kept}
 use Rattle.unit.specs.Numbers.{doors_n, rows_n}
 use native.Mathlib.Omega.{arith}
 use Rattle.door.specs.Calls.{receive, outcome}

@@ -1,7 +1,7 @@
 -- `unit_resend::resend` meets its contract.
 use Rattle.unit_step.specs.InPlace.{step_looked}
 use Rattle.door.specs.Calls.{resend, outcome}
-use Rattle.pool.specs.PlacedLaws.{doors_same, put_kept}
+use Rattle.pool.proofs.PlacedLaws.{doors_same, put_kept}
 use Rattle.unit_step.specs.Stepping.{step_past}
 use Rattle.unit_bytes.specs.Content.{unit_in}
 use Rattle.unit.specs.Numbers.{doors_n, rows_n}

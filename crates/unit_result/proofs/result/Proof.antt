@@ -5,7 +5,7 @@ use Rattle.unit.specs.Run.{Step}
 use mathlib.Core.Path.{◌≡◌, ap, sym, ◌∙◌}
 use Rattle.unit_step.specs.InPlace.{step_looked}
 use Rattle.door.specs.Calls.{result, outcome}
-use Rattle.pool.specs.PlacedLaws.{doors_same, put_kept}
+use Rattle.pool.proofs.PlacedLaws.{doors_same, put_kept}
 use Rattle.unit_step.specs.Stepping.{step_past}
 use Rattle.unit_bytes.specs.Content.{unit_in}
 use Rattle.unit.specs.Numbers.{doors_n, rows_n}

@@ -1,5 +1,5 @@
 -- `unit_store::store` meets its contract.
-use Rattle.pool.specs.PlacedLaws.{doors_same, enacts_kept}
+use Rattle.pool.proofs.PlacedLaws.{doors_same, enacts_kept}
 use native.Mathlib.Omega.{arith}
 use Rattle.door.specs.Calls.{store, outcome}
 use Rattle.door.specs.Numbered.{lent_of}

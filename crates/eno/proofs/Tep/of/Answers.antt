@@ -1,6 +1,6 @@
 -- `Tep::of` meets its contract.
 use native.Mathlib.Omega.{arith}
-use Rattle.eno.specs.Laws.Tep.{tep_25519, tep_448, tep_p256, tep_p521, tep_unknown}
+use Rattle.eno.proofs.Laws.Tep.{tep_25519, tep_448, tep_p256, tep_p521, tep_unknown}
 use Rattle.eno.proofs.Tep.of.Goals as goal
 
 pub returns-then-name-eq-CURVE25519 : goal.returns-then-name-eq-CURVE25519

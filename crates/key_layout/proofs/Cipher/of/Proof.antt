@@ -1,6 +1,6 @@
 -- `Cipher::of` meets its contract.
 use native.Mathlib.Omega.{arith}
-use Rattle.key_layout.specs.CipherLaws.{cipher_128, cipher_256, cipher_chacha, cipher_unknown}
+use Rattle.key_layout.proofs.CipherLaws.{cipher_128, cipher_256, cipher_chacha, cipher_unknown}
 use Rattle.key_layout.proofs.Cipher.of.Statement.{statement}
 use Rattle.key_layout.proofs.Cipher.of.Tie as tie
 

@@ -1,0 +1,5 @@
+-- Lemmas and theorems.
+pub mod Answers
+pub mod LayoutLaws
+pub mod Reading
+pub mod Refusals

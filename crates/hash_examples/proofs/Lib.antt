@@ -1,0 +1,2 @@
+-- Lemmas and theorems.
+pub mod Examples

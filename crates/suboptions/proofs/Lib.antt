@@ -1,0 +1,4 @@
+-- Lemmas and theorems.
+pub mod Examples
+pub mod Finds
+pub mod Laws

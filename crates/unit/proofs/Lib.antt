@@ -1,0 +1,21 @@
+-- Lemmas and theorems.
+pub mod AcceptedStores
+pub mod Causes
+pub mod Confirmations
+pub mod Confirmed
+pub mod History
+pub mod Invariant
+pub mod Isolation
+pub mod Ledger
+pub mod Marked
+pub mod Named
+pub mod Numbers
+pub mod Openings
+pub mod Refusals
+pub mod Results
+pub mod Resumption
+pub mod RunTable
+pub mod SeenBound
+pub mod SeenLedger
+pub mod Stories
+pub mod Laws

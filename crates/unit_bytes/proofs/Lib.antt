@@ -1,0 +1,4 @@
+-- Lemmas and theorems.
+pub mod Laws
+pub mod Tells
+pub mod Whole
