@@ -1,4 +1,6 @@
 // Close of one door: its connection is over.
+#![tactic(auto)]
+
 ghost use Rattle.std.specs.Prelude.{◌≡◌, []};
 ghost use Rattle.door.specs.Outcome.{keep};
 ghost use Rattle.door.specs.Receive.{close};

@@ -1,4 +1,6 @@
 // Resend of one door: the option that it sent, once more. Total for every door and every buffer.
+#![tactic(auto)]
+
 ghost use Rattle.std.specs.Prelude.{◌≡◌, []};
 ghost use Rattle.door.specs.Outcome.{keep};
 ghost use Rattle.door.specs.Receive.{may_send, resend};

@@ -45,7 +45,7 @@ unsettled phase.Idle h = refl
 unsettled phase.Offered h = refl
 unsettled phase.Crossed h = refl
 unsettled phase.Answered h = refl
-unsettled phase.open_outcome h = absurd (⊎_elim (λ e. omega arith) (⊎_elim (λ e. omega arith) (⊎_elim (λ e. omega arith) (λ e. omega arith))) h)
+unsettled phase.Open h = absurd (⊎_elim (λ e. omega arith) (⊎_elim (λ e. omega arith) (⊎_elim (λ e. omega arith) (λ e. omega arith))) h)
 unsettled phase.Plain h = absurd (⊎_elim (λ e. omega arith) (⊎_elim (λ e. omega arith) (⊎_elim (λ e. omega arith) (λ e. omega arith))) h)
 
 -- result
@@ -100,5 +100,5 @@ module _ (d : Door) (s : List ℕ) where
         let u : is_open (phase_of d.phase) || is_plain (phase_of d.phase) ≡ false = rw ep at (unsettled p h) in
         told_by _ (outcome_as (refused 4) s d keep) _ refl (two_tests _ _ _ _ _ _ _ ∙ simp u) refl
 
-pub is_open_lem : (d : Door) (p : Phase) → phase_as p ≡ phase_of d.phase → p ≡ phase.open_outcome → phase_of d.phase ≡ opened
+pub is_open_lem : (d : Door) (p : Phase) → phase_as p ≡ phase_of d.phase → p ≡ phase.Open → phase_of d.phase ≡ opened
 is_open_lem d p ep e = sym ep ∙ ap phase_as e

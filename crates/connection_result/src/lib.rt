@@ -1,4 +1,6 @@
 // Result of one door: what its connection came to. Total for every door and every buffer.
+#![tactic(auto)]
+
 ghost use Rattle.std.specs.Prelude.{◌≡◌, ◌++◌, cond, ◌+◌, ◌≤◌, length, replicate};
 ghost use Rattle.wire.specs.Bytes.{pasted};
 ghost use Rattle.eno.specs.Judge.{of_a, of_b};

@@ -15,7 +15,6 @@ leb_not : (m n : ℕ) → leb m n ≡ not (ltb n m)
 leb_not m n = elim (dec_lt n m) [
   | yes h ↦ simp (lt-leb _ _ h, lt-ltb _ _ h)
   | no h ↦ let l : m ≤ n = omega arith in simp (le-leb _ _ l, le-ltb _ _ l)
-
 ]
 
 some_not_none : (n : ℕ) → leb 1 n ≡ not (eqb n 0)

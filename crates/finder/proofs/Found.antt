@@ -1,13 +1,11 @@
 -- The part that `find_option` hands back and the word that `find_status` says, from what `locate` promises.
 use Prim.Native.Nat.{ℕ, ◌+◌, ◌-◌, ◌≤◌}
-use mathlib.Core.Path.{◌≡◌, sym, ◌∙◌, ap, subst}
+use mathlib.Core.Path.{◌≡◌, refl, sym, ◌∙◌, ap, subst}
 use mathlib.Core.List.{List, []}
 use mathlib.Core.Bool.{Bool}
-use mathlib.Core.Logic.{◌⊎◌, ⊎_elim}
 use native.Mathlib.Nat.{add-sub_cancel_left}
 use native.Mathlib.Omega.{arith}
 use lib.ListN.{length, take, drop}
-use denote.Enum.Declared
 use Rattle.wire.specs.Bytes.{part}
 use Rattle.eno.specs.Area.{part_of, finding, status}
 use Rattle.area_walk.specs.Answers.{finding_of, Within, Locates}
@@ -32,20 +30,18 @@ module _ (s : List ℕ) (syn : Bool) (r : Located) (l : Locates s syn r) where
   pub told : (x : Located) → r ≡ x → status (finding_of x) ≡ status (finding s syn)
   told x e = ap (λ y. status (finding_of y)) (sym e) ∙ ap status l.right
 
-abbrev pub tag : Located → ℕ
-tag r = Declared.tag_of (Declared.declared Rattle.area_walk.specs.contracts.Located.enum) r
-
+-- where no option was found
 pub no_bytes : (s : List ℕ) (syn : Bool) (r : Located) → Locates s syn r
-    → (tag r ≡ 0) ⊎ ((tag r ≡ 1) ⊎ (tag r ≡ 2)) → [] ≡ part_of s (finding s syn)
+    → ((i k : ℕ) → r ≡ located.Found i k → ⊥) → [] ≡ part_of s (finding s syn)
 unfolding part_of
 no_bytes s syn located.Refused l h = ap (part_of s) l.right
 no_bytes s syn (located.Unreadable i k) l h = ap (part_of s) l.right
 no_bytes s syn located.Missing l h = ap (part_of s) l.right
-no_bytes s syn (located.Found i k) l h = absurd (⊎_elim (λ e. omega arith) (⊎_elim (λ e. omega arith) (λ e. omega arith)) h)
+no_bytes s syn (located.Found i k) l h = absurd (h i k refl)
 
 pub no_start : (s : List ℕ) (syn : Bool) (r : Located) → Locates s syn r
-    → (tag r ≡ 0) ⊎ ((tag r ≡ 1) ⊎ (tag r ≡ 2)) → 0 ≡ start_of (finding s syn)
+    → ((i k : ℕ) → r ≡ located.Found i k → ⊥) → 0 ≡ start_of (finding s syn)
 no_start s syn located.Refused l h = ap start_of l.right
 no_start s syn (located.Unreadable i k) l h = ap start_of l.right
 no_start s syn located.Missing l h = ap start_of l.right
-no_start s syn (located.Found i k) l h = absurd (⊎_elim (λ e. omega arith) (⊎_elim (λ e. omega arith) (λ e. omega arith)) h)
+no_start s syn (located.Found i k) l h = absurd (h i k refl)

@@ -1,4 +1,6 @@
 // Frame headers, written and read.
+#![tactic(auto)]
+
 ghost use Rattle.std.specs.Prelude.{◌≡◌, ◌∷◌, ◌≤◌, length};
 ghost use Rattle.wire.specs.Bytes.{pasted};
 ghost use Rattle.wire.specs.Number.{big_endian};

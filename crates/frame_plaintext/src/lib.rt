@@ -1,4 +1,6 @@
 // Plaintexts of frames, written and read.
+#![tactic(auto)]
+
 ghost use Rattle.std.specs.Prelude.{◌≡◌, ◌≤◌, length};
 ghost use Rattle.wire.specs.Bytes.{pasted};
 ghost use Rattle.frame_layout.specs.Layout.{flags_sent, heading, heading_length};

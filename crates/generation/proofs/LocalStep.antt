@@ -55,9 +55,7 @@ unfolding receiving is_initiated is_rekey
 received_after g true = elim (follows g.local (g.remote + 1)) [
   | inl h ↦ as_before refl (λ e. h.0) h.1
   | inr h ↦ remote_now refl refl h.0 h.1
-
 ]
-
 received_after g false = as_before refl (λ e. absurd (false≢true e)) refl
 
 pub local_after : (g : GenerationRecord) (k : Ask) → LocalAfter g k (outcome g k)

@@ -1,4 +1,6 @@
 // Rekeying: a frame was received.
+#![tactic(auto)]
+
 ghost use Rattle.std.specs.Prelude.{◌≡◌};
 ghost use Rattle.generation.specs.Steps.{Ask, outcome};
 ghost use Rattle.generation.specs.Answers.{step_of};

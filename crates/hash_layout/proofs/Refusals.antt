@@ -62,7 +62,6 @@ unfolding hashed_mac is_longer mac_too_long too_long longest
 mac_is key text = elim (dec_lt 64 key) [
   | yes h ↦ rw (lt-ltb 64 key h) (ap (λ x. ltb (2 ^ 61 - 1) key || x) (or_false (ltb (2 ^ 61 - 1) (64 + text))))
   | no h ↦ rw (le-ltb 64 key (omega arith), le-ltb (2 ^ 61 - 1) key (omega arith)) (or_false (ltb (2 ^ 61 - 1) (64 + text)))
-
 ]
 
 module _ (info : ℕ) where

@@ -1,4 +1,6 @@
 // The reply in plain numbers that the exported calls share.
+#![tactic(auto)]
+
 ghost use Rattle.std.specs.Prelude.{◌≡◌};
 ghost use Rattle.host_reply.specs.Numbers.{with_place, of_kind, plain_numbers, broken_numbers, flag_number};
 

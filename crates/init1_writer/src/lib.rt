@@ -1,4 +1,6 @@
 // Init1, written.
+#![tactic(auto)]
+
 ghost use Rattle.std.specs.Prelude.{◌≡◌, ◌+◌, ◌*◌, ◌≤◌, length};
 ghost use Rattle.wire.specs.Bytes.{pasted};
 ghost use Rattle.eno.specs.Option.{written_as};

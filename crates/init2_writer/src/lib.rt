@@ -1,4 +1,6 @@
 // Init2, written.
+#![tactic(auto)]
+
 ghost use Rattle.std.specs.Prelude.{◌≡◌};
 ghost use Rattle.eno.specs.Option.{written_as};
 ghost use Rattle.init_layout.specs.Writing.{write_init2};

@@ -1,4 +1,6 @@
 // The cipher of Init1 that an end takes: the first that it has enabled.
+#![tactic(auto)]
+
 ghost use Rattle.std.specs.Prelude.{◌≡◌};
 ghost use Rattle.init_layout.specs.Layout.{init1};
 ghost use Rattle.init_layout.specs.Reading.{count_at, ciphers_at, first_that, is_enabled};

@@ -86,7 +86,6 @@ enables e c h = elim (or_either (eqb c 0x0001 && e.aes128 || eqb c 0x0002 && e.a
     | inr x ↦ let q = both (eqb c 0x0002) e.aes256 x in inr (inl (eqb-true _ _ q.0, q.1))
   ]
   | inr x ↦ let q = both (eqb c 0x0010) e.chacha20 x in inr (inr (eqb-true _ _ q.0, q.1))
-
 ]
 
 enabled_back : (e : Enabled) (c : ℕ) → Enables e c → is_enabled e c ≡ true

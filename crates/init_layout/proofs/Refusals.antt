@@ -50,7 +50,6 @@ bad_tep_lem t = elim (ℕ_discrete t 0x23) [
       ]
     ]
   ]
-
 ]
 
 -- how a call ends, with the rows
@@ -216,14 +215,12 @@ over : (n : ℕ) → ltb 255 n ≡ not (leb n 255)
 over n = elim (dec_lt 255 n) [
   | yes h ↦ simp (lt-ltb 255 n h, lt-leb n 255 h)
   | no h ↦ let k : n ≤ 255 = omega arith in simp (le-ltb 255 n k, le-leb n 255 k)
-
 ]
 
 empty : (n : ℕ) → eqb n 0 ≡ not (leb 1 n)
 empty n = elim (dec_lt 0 n) [
   | yes h ↦ let z : n ≡ 0 → ⊥ = λ e. omega arith in simp (ne_eqb n 0 z, le-leb 1 n h)
   | no h ↦ let z : n ≡ 0 = omega arith in simp (z)
-
 ]
 
 write_number : (fit : Bool) (o s : List ℕ) → writing_number (write_message fit o s).says ≡ cond (not fit) (some 3) (cond (ltb (length s) (length o)) (some 5) none)

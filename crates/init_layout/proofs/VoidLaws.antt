@@ -51,7 +51,6 @@ from_less (suc n) i p q e = elim (dec_lt (i + 1) (length p)) [
   | yes h ↦ let c = clear_both n i (p ++ q) (omega (arith, length-append p q)) e in
       clear_next n i p (λ _ z. c.0 (number_settled 2 i p q (omega arith) ∙ z)) (from_less n (i + 2) p q c.1)
   | no h ↦ void_past (suc n) i p (omega arith)
-
 ]
 
 pub are_ones : (k : ℕ) → length (ones k) ≡ k
@@ -85,7 +84,6 @@ from_ones (suc n) i k p e = elim (dec_lt (i + 1) (length p)) [
       clear_next n i (p ++ ones k) (λ _ z. c.0 (sym (number_settled 2 i p (ones k) (omega arith)) ∙ z)) (from_ones n (i + 2) k p c.1)
   | no h ↦ clear_next n i (p ++ ones k) (λ l z. omega (arith, two_bytes (p ++ ones k) i, one_at p k (i + 1) (omega arith) l))
       (from_ones n (i + 2) k p (void_past n (i + 2) p (omega arith)))
-
 ]
 
 -- of a list that is all at hand

@@ -1,4 +1,6 @@
 // How the bytes at hand stand as an Init1 and as an Init2.
+#![tactic(auto)]
+
 ghost use Rattle.std.specs.Prelude.{◌≡◌};
 ghost use Rattle.eno.specs.Tep.{key_length};
 ghost use Rattle.init_layout.specs.Layout.{init1, init2};

@@ -1,4 +1,6 @@
 // What both writers of Init messages test: whether TEP, nonce and key fit each other, and whether Init1 may list the ciphers.
+#![tactic(auto)]
+
 ghost use Rattle.std.specs.Prelude.{◌≡◌};
 ghost use Rattle.init_layout.specs.Writing.{parts_fit, ciphers_fit};
 

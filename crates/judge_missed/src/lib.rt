@@ -1,4 +1,6 @@
 // The judgement where the two areas do not both have an option: why, by what the finder says of each.
+#![tactic(auto)]
+
 ghost use Rattle.std.specs.Prelude.{◌≡◌};
 ghost use Rattle.finder.specs.Answers.{status_of};
 ghost use Rattle.judge_missed.specs.Missed.{unreadable_as, missed_peer, unless_refused, missed_as, status_by, not_found};

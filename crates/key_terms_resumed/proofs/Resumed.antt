@@ -24,7 +24,7 @@ use Rattle.door.specs.Calls.{result, store, outcome}
 use Rattle.door.specs.declared.Door.{Door}
 use Rattle.unit.specs.Numbers.{doors_n}
 use Rattle.unit.specs.Run.{Call, Told}
-use Rattle.unit.specs.Laws.Calls.{unless_law}
+use Rattle.unit.proofs.Laws.Calls.{unless_law}
 use Rattle.unit.specs.Resumption.{is_open_now}
 use Rattle.unit.specs.History.{seen_after, door_after, told_after}
 use Rattle.unit.proofs.History.{told_is}

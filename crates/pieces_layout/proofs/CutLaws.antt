@@ -65,7 +65,6 @@ on_taken n p t = elim t.told [
   | item z ↦ reported z t.reader (drained n t.reader (drop t.used p))
   | refused a b ↦ ran [] t.reader
   | short ↦ ran [] t.reader
-
 ]
 
 drained_on : (n : ℕ) (r : Reader) (p : List ℕ) (t : Taken) → fed r p ≡ t → drained (suc n) r p ≡ on_taken n p t

@@ -24,7 +24,6 @@ use Rattle.pieces_layout.proofs.CutLaws.{stopped_each}
 use Rattle.pieces_layout.specs.Stream.{waits, stops, Parsed, ending, reporting, Opening, not_yet, settled, opening, head_decided, frames_in, ending_of, parsed_by}
 use Rattle.pieces_layout.proofs.OpeningLaws.{Onward, Met, Opened, opened}
 use Rattle.pieces_layout.specs.FrameStreamLaws.{Heads, body_in, frame_in, opened_in}
-use Rattle.pieces_layout.proofs.FrameStreamLaws.{]}
 
 -- a byte of a header, with its position and the header's
 headed_as : Reader → (at o : ℕ) → List ℕ → Taken
@@ -170,8 +169,6 @@ parsed_stop x n l h k =
     let z = become x (position_of x) n 0 6 in
     let e : state_of z ≡ stopped n = state_become x (position_of x) n 0 6 h ∙ ap stopped k in
     ap parsed_by (stopped_each l n z e) ∙ parsed_quiet (ran [] z) (stopped n) (position_of x) refl e (position_become x (position_of x) n 0 6 h)
-
-]
 
 pub frames_open : (f o : ℕ) (s : List ℕ) → frames_in (suc f) o s ≡ opened_in (frames_in f) o s (opening (head_decided o) [] s)
 unfolding frames_in opened_in frame_in body_in

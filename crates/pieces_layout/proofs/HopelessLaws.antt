@@ -80,7 +80,6 @@ by_least : (o n m : ℕ) → 17 ≤ n → n ≤ 65535 → no_frame o n ≡ true 
 by_least o n m low high e f = elim (dec_lt m 17) [
   | yes h ↦ frame_short o m h
   | no h ↦ frame_past o n m low high e (f (omega arith))
-
 ]
 
 forward : (o : ℕ) (p : List ℕ) → Bytes p → 1 ≤ length p → length p ≤ 3 → hopeless o p ≡ true → Eleven o p
@@ -93,9 +92,7 @@ forward o (c ∷ h ∷ []) b low high e [] y k = absurd (omega arith)
 forward o (c ∷ h ∷ []) b low high e (l ∷ q) y k = by_three o c h l q (elim (dec_lt 0 h) [
   | yes z ↦ by_least o (h * 256) (h * 256 + l) (omega arith) (omega (arith, b.1.0)) (ap (no_frame o) (sym (least_more c h z)) ∙ e) (λ _. omega arith)
   | no z ↦ by_least o 17 (h * 256 + l) (omega arith) (omega arith) (ap (no_frame o) (sym (least_two c h (omega arith))) ∙ e) (λ x. x)
-
 ])
-
 forward o (c ∷ h ∷ l ∷ []) b low high e q y k = by_three o c h l q (ap (no_frame o) (sym (least_three c h l)) ∙ e)
 forward o (c ∷ h ∷ l ∷ x ∷ p) b low high e q y k = absurd (omega arith)
 
@@ -110,9 +107,7 @@ backward o (c ∷ []) low high f = ap (no_frame o) (least_one c) ∙ by_witness 
 backward o (c ∷ h ∷ []) low high f = elim (dec_lt 0 h) [
   | yes z ↦ let k : h * 256 ≡ h * 256 + 0 = omega arith in ap (no_frame o) (least_more c h z ∙ k) ∙ by_witness o c h 0 (f (0 ∷ []) (omega arith, tt) (omega arith))
   | no z ↦ let k : 17 ≡ h * 256 + 17 = omega arith in ap (no_frame o) (least_two c h (omega arith) ∙ k) ∙ by_witness o c h 17 (f (17 ∷ []) (omega arith, tt) (omega arith))
-
 ]
-
 backward o (c ∷ h ∷ l ∷ []) low high f = ap (no_frame o) (least_three c h l) ∙ by_witness o c h l (f [] tt (omega arith))
 backward o (c ∷ h ∷ l ∷ x ∷ p) low high f = absurd (omega arith)
 

@@ -20,7 +20,7 @@ use Rattle.init_layout.proofs.ContinuingLaws.{bytes_both, length_settled}
 use Rattle.pieces_layout.specs.Reader.{Reader, gathered_n, own_from, position_of, first_of, second_of, state_of, enabled_in, own_in, test_of, moved, stored}
 use Rattle.pieces_layout.proofs.ReaderLaws.{state_moved, second_moved, position_moved, long_stored}
 use Rattle.pieces_layout.specs.Step.{waiting, Taken, taken_as, stop, before_nonce, settles, message_end, finished, gathering, by_state, after_byte}
-use Rattle.pieces_layout.specs.VoidSnocLaws.{Finishes}
+use Rattle.pieces_layout.proofs.VoidSnocLaws.{void_finishes}
 use Rattle.pieces_layout.proofs.StandingSnocLaws.{wants_more, short_yet, whole_long, count_kept, same_length, among, behind_more, behind_whole, taken_as_read}
 use Rattle.pieces_layout.specs.InitStreamLaws.{Gathers}
 
@@ -139,8 +139,8 @@ module _ (i : Init) (keys : ℕ) (test : ℕ → Bool) (p : List ℕ) (r : Reade
     pair_held : ciphers_from i < length p → number_at 2 held (length p - 1) ≡ number_at 2 now_hand (length p - 1)
     pair_held k = ap (λ l. number_at 2 l (length p - 1)) held_is ∙ number_settled 2 (length p - 1) now_hand behind (omega (arith, one_more))
 
-    settles_is : settles i keys held (length p) ≡ Finishes p b (ciphers_from i)
-    unfolding settles Finishes
+    settles_is : settles i keys held (length p) ≡ void_finishes p b (ciphers_from i)
+    unfolding settles void_finishes
     settles_is = rw (le-ltb (length p) (ciphers_from i) begun) (elim (dec_lt (ciphers_from i) (length p)) [
       | yes k ↦ ap (λ x. eqb ((length p - ciphers_from i) % 2) 1 && eqb x 0) (pair_held k)
       | no k ↦ let z : (length p - ciphers_from i) % 2 ≡ 0 = omega arith in rw z
@@ -158,9 +158,9 @@ module _ (i : Init) (keys : ℕ) (test : ℕ → Bool) (p : List ℕ) (r : Reade
 
     among_comes : length p < nonce_from i (count_at i p) → Comes (standing_of i keys now_hand)
     unfolding gathering
-    among_comes k = subst Comes (sym (among i keys p b begun h.wants k)) (go (Finishes p b (ciphers_from i)) refl)
+    among_comes k = subst Comes (sym (among i keys p b begun h.wants k)) (go (void_finishes p b (ciphers_from i)) refl)
       where
-        go : (t : Bool) → Finishes p b (ciphers_from i) ≡ t → Comes (cond t unreadable incomplete)
+        go : (t : Bool) → void_finishes p b (ciphers_from i) ≡ t → Comes (cond t unreadable incomplete)
         go true e = rw (within_list k, settles_is, e)
         go false e = rw (within_list k, settles_is, e)
 

@@ -11,9 +11,7 @@ pub mod InitStreamLaws
 pub mod OpeningLaws
 pub mod PieceLaws
 pub mod ReaderLaws
-pub mod Run
 pub mod StandingSnocLaws
 pub mod StartLaws
-pub mod Stream
 pub mod StreamLaws
 pub mod VoidSnocLaws

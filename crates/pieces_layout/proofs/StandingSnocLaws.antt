@@ -18,8 +18,7 @@ use Rattle.init_layout.proofs.ReadableLaws.{readable_found, readable_reading, wh
 use Rattle.init_layout.proofs.ContinuingLaws.{length_settled, magic_more, hopeful_less, whole_hopeful}
 use Rattle.pieces_layout.specs.ByteLaws.{Ten}
 use Rattle.pieces_layout.proofs.ByteLaws.{only_ten}
-use Rattle.pieces_layout.specs.VoidSnocLaws.{Finishes}
-use Rattle.pieces_layout.proofs.VoidSnocLaws.{void_behind, void_among}
+use Rattle.pieces_layout.proofs.VoidSnocLaws.{void_behind, void_finishes, void_among}
 
 -- what settles how bytes stand
 module _ (i : Init) (keys : ℕ) (p : List ℕ) where
@@ -118,14 +117,14 @@ module _ (i : Init) (keys : ℕ) (p : List ℕ) (b : ℕ) (begun : ciphers_from 
       ∙ (ap (λ x. x || void_from (count_at i p) q (ciphers_from i)) (ne_eqb (count_at i p) 0 (clear_some i p hopeful.clear)) ∙ e)
 
   -- among the ciphers: the pair that the byte finishes decides
-  pub among : length p < nonce_from i (count_at i p) → standing_of i keys q ≡ cond (Finishes p b (ciphers_from i)) unreadable incomplete
+  pub among : length p < nonce_from i (count_at i p) → standing_of i keys q ≡ cond (void_finishes p b (ciphers_from i)) unreadable incomplete
   unfolding nonce_from fields_end
-  among h = go (Finishes p b (ciphers_from i)) refl
+  among h = go (void_finishes p b (ciphers_from i)) refl
     where
-      decides : void_from (count_at i p) q (ciphers_from i) ≡ Finishes p b (ciphers_from i)
+      decides : void_from (count_at i p) q (ciphers_from i) ≡ void_finishes p b (ciphers_from i)
       decides = void_among p b (count_at i p) (ciphers_from i) begun h clear
 
-      go : (t : Bool) → Finishes p b (ciphers_from i) ≡ t → standing_of i keys q ≡ cond t unreadable incomplete
+      go : (t : Bool) → void_finishes p b (ciphers_from i) ≡ t → standing_of i keys q ≡ cond t unreadable incomplete
       go true e = stands_void i keys q (void_as true (decides ∙ e))
       go false e =
           stands_hopeful i keys q (still_hopeful (void_as false (decides ∙ e)))

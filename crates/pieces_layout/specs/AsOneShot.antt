@@ -16,7 +16,6 @@ unfoldable pub after_init : (i : Init) (keys : ℕ) (read : List ℕ → Reading
 after_init i keys read q l v = elim v [
   | took c count n ↦ reporting (init i keys (read q)) (length q) (frames_in (suc (length l)) (length q) l)
   | refused_with n ↦ ending (stops n (length q - 1))
-
 ]
 
 unfoldable pub opened_init : (i : Init) (keys : ℕ) (read : List ℕ → Reading) → List ℕ → Opening → Parsed

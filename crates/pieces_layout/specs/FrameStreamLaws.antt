@@ -25,13 +25,13 @@ unfoldable pub body_in : ((offset : ℕ) (s : List ℕ) → Parsed) → (o n : �
 body_in again o n l b = elim b [
   | true ↦ ending (waits (o + 3 + length l))
   | false ↦ reporting (body (o + 3) (next_offset o n)) (next_offset o n) (again (next_offset o n) (drop n l))
+]
 
 unfoldable pub frame_in : ((offset : ℕ) (s : List ℕ) → Parsed) → (o : ℕ) (p l : List ℕ) → Bool → Parsed
 frame_in again o p l b = elim b [
   | true ↦ ending (stops 11 (o + length p - 1))
   | false ↦ reporting (header (outcome (read_header p o))) (o + 3) (body_in again o (length_in p) l (ltb (length l) (length_in p)))
-
-pub ]
+]
 
 unfoldable pub opened_in : ((offset : ℕ) (s : List ℕ) → Parsed) → (o : ℕ) (s : List ℕ) → Opening → Parsed
 opened_in again o s v = elim v [ not_yet ↦ ending (waits (o + length s)) | settled p l ↦ frame_in again o p l (hopeless o p) ]

@@ -1,7 +1,7 @@
 -- Pieces, one after the other: after an item the piece is given again without the bytes that were used.
 use Rattle.std.specs.Prelude.{ℕ, zero, suc, List, [], ◌∷◌, ◌++◌, length, drop}
 use Rattle.pieces_layout.specs.Reader.{Reader, position_of}
-use Rattle.pieces_layout.specs.Step.{Item, waiting, item, refused, short, fed}
+use Rattle.pieces_layout.specs.Step.{Item, Told, waiting, item, refused, short, Taken, fed}
 
 -- an item, and how many bytes of the stream were taken when it was told
 pub record Report : Type 0 where
@@ -27,6 +27,7 @@ drained (suc n) r p = elim (fed r p).told [
   | item x ↦ reported x (fed r p).reader (drained n (fed r p).reader (drop (fed r p).used p))
   | refused k q ↦ ran [] (fed r p).reader
   | short ↦ ran [] (fed r p).reader
+]
 
 -- one piece after the other: an item has at least one byte, so one call more than the piece has bytes is enough
 unfoldable pub run : Reader → (pieces : List (List ℕ)) → Ran

@@ -50,6 +50,7 @@ frames_in (suc f) o s = elim (opening (head_decided o) [] s) [
       | false ↦ reporting (body (o + 3) (next_offset o (length_in p))) (next_offset o (length_in p)) (frames_in f (next_offset o (length_in p)) (drop (length_in p) l))
     ])
   ]
+]
 
 -- an Init message is decided at the first byte with which the one-shot reader does not want more
 abbrev pub is_nine : Says → Bool
@@ -67,8 +68,7 @@ init_in i keys read s = elim (opening (init_decided read) [] s) [
     | took c count n ↦ reporting (init i keys (read p)) (length p) (frames_in (suc (length l)) (length p) l)
     | refused_with n ↦ ending (stops n (length p - 1))
   ]
-
-pub ]
+]
 
 unfoldable pub parse : Start → List ℕ → Parsed
 parse (for_init1 t enabled) s = init_in init1 (key_length t) (read_init1 t enabled) s

@@ -1,4 +1,6 @@
 // Steps that every stage of a reader of pieces shares: its numbers set, and waiting for more.
+#![tactic(auto)]
+
 ghost use Rattle.std.specs.Prelude.{◌≡◌};
 ghost use Rattle.pieces_steps.specs.Numbers.{numbers_as};
 ghost use Rattle.pieces_steps.specs.Later.{waiting_of};

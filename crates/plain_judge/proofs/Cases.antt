@@ -24,7 +24,7 @@ use Rattle.suboption_list.specs.List.{items_in, list_of}
 use Rattle.suboption_list.proofs.Laws.{list_says}
 use Rattle.suboption_list.specs.declared.SuboptionList.{SuboptionList}
 use Rattle.plain_validity.specs.Validity.{validity_in}
-use Rattle.plain_validity.proofs.Validity.{validity_of}
+use Rattle.plain_validity.proofs.ValidityLaws.{validity_of}
 use Rattle.plain_striking.specs.Striking.{struck, last_of, taken}
 use Rattle.plain_striking.proofs.Striking.{judge_by_striking}
 use Rattle.plain_judge.specs.Plain.{concluded, negotiated_in}

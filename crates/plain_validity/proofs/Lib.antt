@@ -2,4 +2,4 @@
 pub mod Sides
 pub mod Halves
 pub mod Cases
-pub mod Validity
+pub mod ValidityLaws

@@ -1,4 +1,6 @@
 // Whether a TEP is valid, and in which way, as plainly as document 01 and RFC 8547 (4.5) read: by two lists of suboptions, walked anew for each question.
+#![tactic(auto)]
+
 ghost use Rattle.std.specs.Prelude.{◌≡◌, ◌≤◌};
 ghost use Rattle.wire.specs.Bytes.{same_bytes, part};
 ghost use Rattle.eno.specs.Suboption.{teps};

@@ -1,4 +1,6 @@
 // The compression function of SHA-256 (FIPS 180-4, 6.2.2).
+#![tactic(auto)]
+
 ghost use Rattle.std.specs.Prelude.{◌≡◌, ◌≤◌, ◌+◌, ◌*◌, ◌%◌, ◌^◌, length, take, drop};
 ghost use Rattle.hash_layout.specs.Constants.{k256};
 ghost use Rattle.hash_layout.specs.Sha256.{ch, maj, big_sigma0, big_sigma1, sigma0, sigma1, schedule, round_of, plus, compressed};

@@ -1,4 +1,6 @@
 // Hex digits: the value of one, and the byte that two say.
+#![tactic(auto)]
+
 ghost use Rattle.std.specs.Prelude.{◌≡◌, ◌≤◌};
 ghost use Rattle.text_hex.specs.Hex.{hex_value, pair_said};
 ghost use Rattle.text_hex.specs.Answers.{octet_of};

@@ -1,4 +1,6 @@
 // Text that is put at a place. Total for any place of any slice.
+#![tactic(auto)]
+
 ghost use Rattle.text_put.specs.Answers.{Put};
 
 // Puts text at a place and gives the place after it; where it does not fit, it is left out.

@@ -1,4 +1,6 @@
 // What is done with a segment in each phase, and what is replied there. Total for every phase and every door.
+#![tactic(auto)]
+
 ghost use Rattle.std.specs.Prelude.{◌≡◌, []};
 ghost use Rattle.door.specs.Door.{offering, crossed, answering};
 ghost use Rattle.door.specs.Receive.{turn, replies};

@@ -22,7 +22,8 @@ use Rattle.unit.specs.Unit.{empty_unit, view}
 use Rattle.unit.specs.Run.{Call, on, erase, Told, step, after}
 use Rattle.unit.specs.Isolation.{idle_view}
 use Rattle.unit.proofs.Isolation.{view_empty}
-use Rattle.unit.specs.Resumption.{one, in_hand_that, idle_hand}
+use Rattle.unit.specs.Resumption.{one, in_hand_that}
+use Rattle.unit.proofs.Resumption.{idle_hand}
 use Rattle.unit.specs.Entries.{Entry, stored, forgotten, taken_if, is_done, is_written, entry}
 use Rattle.unit.specs.History.{seen_after, door_after, told_after}
 use Rattle.unit.proofs.History.{after_one, told_is, along}

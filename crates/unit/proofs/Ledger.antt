@@ -23,12 +23,12 @@ use Rattle.unit.specs.Invariant.{Inv}
 use Rattle.unit.proofs.Invariant.{empty_inv}
 use Rattle.unit.specs.Isolation.{idle_view}
 use Rattle.unit.proofs.Isolation.{view_empty, inv_step, inv_after, told_own, told_at, view_at_lem, view_off}
-use Rattle.unit.specs.Resumption.{one, in_hand_that, accepted_by, stores, tally}
+use Rattle.unit.specs.Resumption.{one, in_hand_that, accepted_by, stores}
+use Rattle.unit.proofs.Resumption.{tally}
 use Rattle.unit.specs.Entries.{Entry, stored, forgotten, taken, entry}
 use Rattle.unit.specs.Laws.Deeds.{entry_of, Deed, leaves, adds, forgets, takes}
 use Rattle.unit.proofs.Laws.Deeds.{deed}
-use Rattle.unit.specs.Laws.Books.{Books}
-use Rattle.unit.proofs.Laws.Books.{books_after, books_idle, grows_by_stores, none_tally, tally_first, session_self}
+use Rattle.unit.proofs.Laws.Books.{Books, books_after, books_idle, grows_by_stores, none_tally, tally_first, session_self}
 use Rattle.unit.specs.declared.LinkUnit.{LinkUnit}
 use Rattle.unit.specs.Ledger.{entered, entries_after, entries_from, entries, ledger, accepted_stores, accepted_forgets, takings, CountTells, Consumed}
 

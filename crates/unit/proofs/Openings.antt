@@ -32,7 +32,7 @@ use Rattle.door.specs.declared.Door.{Door}
 use Rattle.unit.specs.Numbers.{doors_n}
 use Rattle.unit.specs.Unit.{empty_unit, view}
 use Rattle.unit.specs.Run.{Call, on, erase, Told, step, after, Moment, moment, moments}
-use Rattle.unit.specs.Laws.Calls.{unless_law}
+use Rattle.unit.proofs.Laws.Calls.{unless_law}
 use Rattle.unit.specs.Isolation.{idle_view}
 use Rattle.unit.specs.Resumption.{one, is_open_now, opens_by, opens, stores}
 use Rattle.unit.proofs.Resumption.{no_more_than_stored}

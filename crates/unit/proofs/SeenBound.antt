@@ -21,7 +21,8 @@ use Rattle.unit.specs.Unit.{empty_unit, view}
 use Rattle.unit.specs.Run.{Call, on, erase, Told, step, after}
 use Rattle.unit.specs.Isolation.{idle_view}
 use Rattle.unit.proofs.Isolation.{view_empty, told_at, view_at_lem, view_off}
-use Rattle.unit.specs.Resumption.{one, in_hand_that, accepted_by, idle_hand, tally, tally_snoc, tally_cut}
+use Rattle.unit.specs.Resumption.{one, in_hand_that, accepted_by}
+use Rattle.unit.proofs.Resumption.{idle_hand, tally, tally_snoc, tally_cut}
 use Rattle.unit.specs.Entries.{forgotten, taken_if, is_written, entry}
 use Rattle.unit.specs.History.{seen_after, door_after, told_after}
 use Rattle.unit.proofs.History.{grows, reached, seen_one, told_is}
@@ -29,7 +30,7 @@ use Rattle.unit.proofs.Openings.{resumed_was_opened}
 use Rattle.unit.proofs.AcceptedStores.{taken_not_stored}
 use Rattle.unit.specs.Seen.{Exchange, exchanges_from, exchanges, says_resumed, begins_or_ends, has_said, resumed_seen, stores_seen}
 use Rattle.unit.proofs.SeenLedger.{exchanges_one}
-use Rattle.unit.specs.Laws.Calls.{unless_law}
+use Rattle.unit.proofs.Laws.Calls.{unless_law}
 use Rattle.unit.specs.Laws.Deeds.{entry_of, Deed, leaves, adds, forgets, takes}
 use Rattle.unit.proofs.Laws.Deeds.{deed}
 

@@ -31,7 +31,7 @@ use Rattle.unit.specs.Ledger.{ledger}
 use Rattle.unit.proofs.Ledger.{pool_holds}
 use Rattle.unit.proofs.Stories.{held_whole}
 use Rattle.unit.specs.Seen.{Exchange, exchanges_from, exchanges, is_opening, TakenAsWritten, less_resumed, of_offer, of_answer, records_after, ledger_seen}
-use Rattle.unit.specs.Laws.Calls.{unless_law}
+use Rattle.unit.proofs.Laws.Calls.{unless_law}
 use Rattle.unit.specs.Laws.Shown.{Whole}
 use Rattle.unit.proofs.Laws.Shown.{offer_shown, answer_shown}
 use Rattle.unit.specs.declared.LinkUnit.{LinkUnit}

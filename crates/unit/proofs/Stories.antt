@@ -37,7 +37,7 @@ use Rattle.door.specs.Calls as door
 use Rattle.door.specs.declared.Door.{Door}
 use Rattle.unit.specs.Numbers.{doors_n}
 use Rattle.unit.specs.Run.{Call, on, erase, Told, after}
-use Rattle.unit.specs.Laws.Calls.{unless_law}
+use Rattle.unit.proofs.Laws.Calls.{unless_law}
 use Rattle.unit.specs.Isolation.{idle_view}
 use Rattle.unit.specs.History.{seen_after, door_after, Since}
 use Rattle.unit.proofs.History.{since_now, since_more, told_is, then_door, own_is, along}

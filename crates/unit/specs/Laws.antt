@@ -4,5 +4,4 @@ pub mod Pool
 pub mod Owned
 pub mod Calls
 pub mod Deeds
-pub mod Books
 pub mod Shown

@@ -22,8 +22,8 @@ door_size = 148
 abbrev pub numbers_size : ℕ
 numbers_size = 18
 
-abbrev pub field_own : ℕ
-field_own = 18
+abbrev pub own_at : ℕ
+own_at = 18
 
 abbrev pub peer_at : ℕ
 peer_at = 58

@@ -19,7 +19,8 @@ use Rattle.unit.specs.Marks.{marks_in}
 use Rattle.unit.specs.Marked.{mark_of}
 use Rattle.unit.proofs.Marked.{takes_lowest, frees_its_row}
 use Rattle.unit.specs.Laws.Lists.{In}
-use Rattle.unit.specs.Laws.Calls.{Fits, unless_law}
+use Rattle.unit.specs.Laws.Calls.{Fits}
+use Rattle.unit.proofs.Laws.Calls.{unless_law}
 use Rattle.unit.proofs.Laws.Calls.{outcome_fits}
 use Rattle.unit.proofs.Refusals.{keep_changes_nothing}
 use Rattle.unit.specs.declared.LinkUnit.{LinkUnit}

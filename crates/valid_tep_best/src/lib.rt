@@ -1,4 +1,6 @@
 // The last valid TEP of host B's option.
+#![tactic(auto)]
+
 ghost use Rattle.std.specs.Prelude.{◌≡◌};
 ghost use Rattle.eno.specs.Session.{in_hand};
 ghost use Rattle.eno.specs.Judge.{of_a, of_b};

@@ -1,4 +1,6 @@
 // Whether a TEP is valid, by what each side sent of it and the record in hand.
+#![tactic(auto)]
+
 ghost use Rattle.std.specs.Prelude.{◌≡◌};
 ghost use Rattle.eno.specs.Session.{in_hand};
 ghost use Rattle.valid_tep.specs.Best.{way_as, way_of_entries};

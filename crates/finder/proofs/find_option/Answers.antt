@@ -16,3 +16,7 @@ slice_bounds-result-end c = let h = found_within _ _ _ c.locate-place.ensures _ 
 
 pub returns-in-Found : goal.returns-in-Found
 returns-in-Found c = (found_bytes _ _ _ c.locate-place.ensures _ _ c.in-Found.is, refl, let h = found_start _ _ _ c.locate-place.ensures _ _ c.in-Found.is in place _ _ _ h)
+
+pub returns-in_default : goal.returns-in_default
+returns-in_default c =
+    (no_bytes _ _ _ c.locate-place.ensures c.in_default.not-Found, refl, let h = no_start _ _ _ c.locate-place.ensures c.in_default.not-Found in place _ _ _ h)

@@ -22,9 +22,9 @@ use Rattle.unit.proofs.Laws.Lists.{length_cut}
 use Rattle.unit.specs.Laws.Deeds.{entry_of, Deed, leaves, adds, forgets, takes}
 use Rattle.unit.proofs.Laws.Deeds.{deed}
 use Rattle.unit.specs.Isolation.{idle_view}
-use Rattle.unit.specs.Resumption.{one, in_hand_that, accepted_by, idle_hand, tally, tally_snoc, tally_cut}
+use Rattle.unit.specs.Resumption.{one, in_hand_that, accepted_by}
+use Rattle.unit.proofs.Resumption.{idle_hand, tally, tally_snoc, tally_cut}
 use Rattle.unit.specs.Entries.{Entry, less, standing, stored_in, forgotten_in, taken_in}
-use Rattle.unit.specs.Laws.Books.{Apart, Books}
 
 -- the first that passes a test, and how many pass
 module _ (p : SessionRecord → Bool) where
@@ -81,6 +81,10 @@ and_true : (x y : Bool) → x && y ≡ true → (x ≡ true) × (y ≡ true)
 and_true true y e = (refl, e)
 and_true false y e = absurd (false≢true e)
 
+-- no two records of a door, held or in hand, have the same TEP and identifier
+abbrev pub Apart : Seen → Type 0
+Apart v = (t : ℕ) (identifier : List ℕ) → tally (is_session t identifier) v.held + in_hand_that (is_session t identifier) (in_hand v.door.hand) ≤ 1
+
 none_of_it : (t : ℕ) (identifier : List ℕ) (h : Option SessionRecord) → is_in_hand t identifier h ≡ false → in_hand_that (is_session t identifier) h ≡ 0
 none_of_it t identifier none e = refl
 none_of_it t identifier (some s) e = ap one e
@@ -106,6 +110,12 @@ apart_after v q x (adds s e d f g nh ni) m t identifier =
 apart_after v q x (forgets u i e h d f) m t identifier =
     rw (e, d) (let l = m t identifier in omega (arith, l, tally_cut (is_session t identifier) (first_that (is_session u i) v.held) v.held h))
 apart_after v q x (takes j h e w f) m t identifier = rw (e, w) (let l = m t identifier in omega (arith, l, tally_cut (is_session t identifier) j v.held h))
+
+-- what stands in the ledger is what the door holds, and it is stores less forgets less takings
+pub record Books (v : Seen) (es : List Entry) : Type 0 where
+  pub holds : v.held ≡ standing es
+  pub sum : length v.held + (forgotten_in es + taken_in es) ≡ stored_in es
+  pub apart : Apart v
 
 -- the j-th is found again by its TEP and identifier
 again : (v : Seen) → Apart v → (j : ℕ) → j < length v.held → first_that (is_session (get_or v.held j past_end).tep (get_or v.held j past_end).identifier) v.held ≡ j

@@ -6,7 +6,7 @@ use Rattle.std.proofs.Math.Option.{none, some}
 use Rattle.eno.specs.Session.{in_hand}
 use Rattle.door.specs.Numbers.{each_n}
 use Rattle.door.specs.Door.{Seen}
-use Rattle.door.specs.Outcome.{refused, done, keep, add, remove, refusal, unless}
+use Rattle.door.specs.Outcome.{refused, done, Outcome, keep, add, remove, refusal, unless}
 use Rattle.door.specs.Offer as o
 use Rattle.door.specs.Answer as a
 use Rattle.door.specs.Answer.{answer_with, plain_for, with}
@@ -14,7 +14,18 @@ use Rattle.door.specs.Receive as r
 use Rattle.door.specs.Records as k
 use Rattle.door.specs.Records.{is_held, is_record}
 use Rattle.door.specs.Calls.{Ask, offer, answer, receive, resend, result, close, store, forget, count, outcome}
-use Rattle.unit.specs.Laws.Calls.{Fits, unless_law}
+use Rattle.door.specs.declared.Door.{Door}
+use Rattle.unit.specs.Laws.Calls.{Fits, Pass}
+
+-- what holds of every refusal, and of x where no test holds, holds of `unless`
+pub unless_law : (P : Outcome → Type 0) (l : List (Bool × ℕ)) (d : Door) (s : List ℕ) (x : Outcome) → ((n : ℕ) → P (unless (some n) d s x)) → (Pass l → P x) → P (unless (refusal l) d s x)
+unfolding refusal unless
+unless_law P [] d s x f g = g tt
+unless_law P (t ∷ l) d s x f g = go t.0 refl (λ e. unless_law P l d s x f (λ p. g (e, p)))
+  where
+    go : (b : Bool) → t.0 ≡ b → (t.0 ≡ false → P (unless (refusal l) d s x)) → P (unless (cond b (some t.1) (refusal l)) d s x)
+    go true e rest = f t.1
+    go false e rest = rest e
 
 take_or_keep : (free : Bool) (v : Seen) (j : ℕ) → Fits free v (cond (ltb j (length v.held)) (remove j) keep)
 take_or_keep free v j = go (ltb j (length v.held)) refl

@@ -23,9 +23,9 @@ use Rattle.door.specs.Records.{is_held, is_in_hand}
 use Rattle.door.specs.Calls.{Ask, offer, answer, receive, resend, result, close, store, forget, count, outcome}
 use Rattle.door.specs.Calls as door
 use Rattle.door.specs.declared.Door.{Door}
-use Rattle.unit.specs.Laws.Calls.{unless_law}
-use Rattle.unit.proofs.Laws.Calls.{or_false}
-use Rattle.unit.specs.Resumption.{accepted_by, hand_back, none_in_hand, idle_hand, open_hand_less}
+use Rattle.unit.proofs.Laws.Calls.{unless_law, or_false}
+use Rattle.unit.specs.Resumption.{accepted_by}
+use Rattle.unit.proofs.Resumption.{hand_back, none_in_hand, idle_hand, open_hand_less}
 use Rattle.unit.specs.Entries.{taken_if, entry}
 use Rattle.unit.specs.Laws.Deeds.{NoneNew, Deed, leaves, adds, forgets, takes}
 

@@ -33,8 +33,8 @@ use Rattle.door.proofs.Taking.{offer_takes, answer_takes}
 use Rattle.door.proofs.Laws.Answered.{terms}
 use Rattle.door.specs.Calls.{cut}
 use Rattle.door.specs.Calls as door
-use Rattle.unit.specs.Resumption.{hand_back}
-use Rattle.unit.specs.Laws.Calls.{unless_law}
+use Rattle.unit.proofs.Resumption.{hand_back}
+use Rattle.unit.proofs.Laws.Calls.{unless_law}
 use Rattle.unit.specs.AcceptedStores.{OfHand}
 use Rattle.unit.specs.Seen.{TakenAsWritten, resumption_in, sent_for, half_for, less_resumed, of_offer, of_answer}
 use Rattle.unit.specs.Laws.Shown.{Whole, Shown}
