@@ -177,7 +177,6 @@ pub not_less : (a b : ℕ) → leb b a ≡ not (ltb a b)
 not_less a b = elim (dec_lt a b) [
   | yes h ↦ rw (lt-leb _ _ h, lt-ltb _ _ h)
   | no h ↦ let l : b ≤ a = omega arith in rw (le-leb _ _ l, le-ltb _ _ l)
-
 ]
 
 module _ (f : List ℕ) (l : Laid f) where

@@ -1,4 +1,5 @@
 // Captures of handshakes: what the calls on them answer. The definitions and theorems are in specs/; the crates above have the calls.
+#![tactic(auto)]
 
 // Why a capture is refused: document 02's 18, 19, 20, and 1, 2 and 21.
 #[derive(Clone, Copy)]

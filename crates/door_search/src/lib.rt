@@ -1,4 +1,6 @@
 // Which of a door's records, oldest first, is looked for: of a listed TEP, one that expects a half, or one of a name. Total for every view and any bytes.
+#![tactic(auto)]
+
 ghost use Rattle.std.specs.Prelude.{◌≡◌};
 ghost use Rattle.door.specs.Record.{first_that};
 ghost use Rattle.door.specs.Door.{seen_of};

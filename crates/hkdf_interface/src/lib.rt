@@ -1,4 +1,5 @@
 // HKDF as the crates above may know it: what extract and expand answer. The promise is specs/Interface.antt; the calls are in hkdf.
+#![tactic(auto)]
 
 #[derive(Clone, Copy)]
 pub enum ExtractSays {

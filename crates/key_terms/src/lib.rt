@@ -1,4 +1,6 @@
 // What a resumed connection is keyed by: this end's original role and the two resumption nonces, read from the transcript. Total for any bytes.
+#![tactic(auto)]
+
 ghost use Rattle.std.specs.Prelude.{◌≡◌, ◌&&◌, ◌≤◌, ◌+◌, ◌-◌, length};
 ghost use Rattle.wire.specs.Bytes.{part, same_bytes};
 ghost use Rattle.key_terms.specs.Terms.{is_whole, resumption_data, original_role, terms_by};

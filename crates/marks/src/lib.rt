@@ -1,4 +1,6 @@
 // The marks of rows, a bit for each: the lowest row that is not marked.
+#![tactic(auto)]
+
 ghost use Rattle.std.specs.Prelude.{◌<◌, ◌≡◌, length};
 ghost use Rattle.unit.specs.Numbers.{words_n};
 ghost use Rattle.unit.specs.Marks.{marks_in};

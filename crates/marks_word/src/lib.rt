@@ -1,4 +1,6 @@
 // One word of marks: how many of its rows are marked before the first that is not.
+#![tactic(auto)]
+
 ghost use Rattle.std.specs.Prelude.{◌≡◌};
 ghost use Rattle.unit.specs.Numbers.{word_n};
 ghost use Rattle.unit.specs.Marks.{bits_of};

@@ -1,4 +1,6 @@
 // Document 01's number of each answer of a reader of pieces, and the position of a refusal; 0 where nothing is refused.
+#![tactic(auto)]
+
 ghost use Rattle.std.specs.Prelude.{◌≡◌, []};
 ghost use Rattle.pieces_layout.specs.Answers.{told_of, start_number};
 ghost use Rattle.pieces_numbers.specs.Refused.{in_told, position_in, in_start};

@@ -1,4 +1,6 @@
 // Why a segment after the first ends in plain TCP. Total for every door and every area.
+#![tactic(auto)]
+
 ghost use Rattle.std.specs.Prelude.{◌≡◌};
 ghost use Rattle.door.specs.Receive.{second_reason};
 ghost use Rattle.plain_reason.specs.Reasons.{as_cause, absence_of};

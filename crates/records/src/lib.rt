@@ -1,4 +1,6 @@
 // The records that a door holds: what store and forget answer, the laws of both in specs/, and count.
+#![tactic(auto)]
+
 ghost use Rattle.std.specs.Prelude.{◌≡◌, []};
 ghost use Rattle.door.specs.Door.{seen_of};
 ghost use Rattle.door.specs.Outcome.{keep};

@@ -1,4 +1,6 @@
 // A door's list of rows: what it is after a change is in specs/; how many rows it lists, and a change that does not fit. Small values only, so that a call copies the unit less often.
+#![tactic(auto)]
+
 ghost use Rattle.std.specs.Prelude.{◌≡◌, length};
 ghost use Rattle.door.specs.Numbers.{each_n};
 ghost use Rattle.unit.specs.Unit.{count_of};

@@ -1,4 +1,6 @@
 // SHA-256 (FIPS 180-4) of a message, and of one that is given in five parts. Which way is taken and which index is read depends on lengths alone, never on the bytes.
+#![tactic(auto)]
+
 ghost use Rattle.std.specs.Prelude.{◌≡◌, ◌≤◌, ◌<◌, ◌+◌, ◌-◌, ◌^◌, ◌++◌, length, drop};
 ghost use Rattle.std.proofs.Math.Seq.{paste};
 ghost use Rattle.wire.specs.Number.{big_endian};

@@ -1,4 +1,6 @@
 // The first global byte of a list of suboptions.
+#![tactic(auto)]
+
 ghost use Rattle.std.specs.Prelude.{◌≡◌};
 ghost use Rattle.eno.specs.Suboption.{global_byte};
 ghost use Rattle.suboption_list.specs.List.{items_in};

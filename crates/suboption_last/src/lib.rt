@@ -1,4 +1,6 @@
 // The last of a list of suboptions.
+#![tactic(auto)]
+
 ghost use Rattle.std.specs.Prelude.{◌≡◌};
 ghost use Rattle.suboption_list.specs.List.{last_item};
 

@@ -1,4 +1,6 @@
 // All suboptions of an ENO option, listed.
+#![tactic(auto)]
+
 ghost use Rattle.std.specs.Prelude.{◌≡◌};
 ghost use Rattle.suboption_list.specs.List.{broken_list, list_of};
 

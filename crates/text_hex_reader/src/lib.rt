@@ -1,4 +1,6 @@
 // Hex words, read.
+#![tactic(auto)]
+
 ghost use Rattle.std.specs.Prelude.{◌≡◌, true, ◌*◌, ◌≤◌, length};
 ghost use Rattle.wire.specs.Bytes.{pasted};
 ghost use Rattle.text_hex.specs.Hex.{all_hex, pairs};

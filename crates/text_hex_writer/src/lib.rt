@@ -1,4 +1,6 @@
 // Bytes written as hex words.
+#![tactic(auto)]
+
 ghost use Rattle.std.specs.Prelude.{◌≡◌, [], ◌∷◌, ◌/◌, ◌%◌, ◌<◌};
 ghost use Rattle.wire.specs.Bytes.{pasted};
 ghost use Rattle.text_hex.specs.Hex.{hex_digit, hex_text};

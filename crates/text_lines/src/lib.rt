@@ -1,4 +1,6 @@
 // Lines of text that is read in chunks: each is collected into a lent buffer, to its newline.
+#![tactic(auto)]
+
 ghost use Rattle.std.specs.Prelude.{◌≡◌, ◌≤◌, min, length};
 ghost use Rattle.text_lines.specs.Line.{longer, without_return};
 ghost use Rattle.text_lines.specs.LineLaws.{Pushed};

@@ -1,4 +1,6 @@
 // Places in a text: where a byte stands, and the word at a place. Total for any place of any slice.
+#![tactic(auto)]
+
 ghost use Rattle.std.specs.Prelude.{◌≡◌, ◌≤◌};
 ghost use Rattle.text_places.specs.Word.{place_of, word_end, word_at};
 
