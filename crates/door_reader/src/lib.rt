@@ -1,4 +1,6 @@
 // A door's bytes read: the door that any bytes are.
+#![tactic(auto)]
+
 ghost use Rattle.std.specs.Prelude.{◌≡◌};
 ghost use Rattle.unit_bytes.specs.Content.{is_set, position_in};
 

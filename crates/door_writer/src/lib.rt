@@ -1,4 +1,6 @@
 // A door written over the bytes that stood there.
+#![tactic(auto)]
+
 ghost use Rattle.std.specs.Prelude.{◌≡◌, length, ◌++◌};
 ghost use Rattle.unit_bytes.specs.Layout.{door_size};
 ghost use Rattle.unit_bytes.specs.Content.{flag_over, position_in, bytes_of};

@@ -1,4 +1,6 @@
 // The pool in place: what a door sees of the unit in lent arrays, and what a call makes of it, are in specs/; the crates above carry it out. Here the whole unit is emptied.
+#![tactic(auto)]
+
 ghost use Rattle.pool.specs.Placed.{Erased};
 
 use unit::{DOORS, ROWS, WORDS};

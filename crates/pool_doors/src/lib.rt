@@ -1,4 +1,6 @@
 // A door of the unit in lent arrays: its position, read, and put in its place.
+#![tactic(auto)]
+
 ghost use Rattle.std.specs.Prelude.{◌≡◌};
 ghost use Rattle.pool.specs.Placed.{position_from, Put};
 

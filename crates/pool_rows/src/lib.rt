@@ -1,4 +1,6 @@
 // A row of the unit in lent arrays: its record, read, and put in its place with its mark.
+#![tactic(auto)]
+
 ghost use Rattle.std.specs.Prelude.{◌≡◌, get_or};
 ghost use Rattle.door.specs.Door.{no_session};
 ghost use Rattle.unit_bytes.specs.Content.{rows_in};

@@ -1,4 +1,6 @@
 // A door's list of rows after a change: with one row more, or without one that is freed.
+#![tactic(auto)]
+
 ghost use Rattle.std.specs.Prelude.{◌<◌, ◌≤◌, ◌≡◌, [], ◌∷◌, ◌++◌, length};
 ghost use Rattle.door.specs.Numbers.{each_n};
 ghost use Rattle.door.specs.Calls.{cut};

@@ -1,4 +1,6 @@
 // A door's list of rows with one row more.
+#![tactic(auto)]
+
 ghost use Rattle.std.specs.Prelude.{◌<◌, ◌≡◌};
 ghost use Rattle.row_list.specs.Listed.{longer};
 

@@ -1,4 +1,6 @@
 // What the row that a change takes or frees holds after it.
+#![tactic(auto)]
+
 ghost use Rattle.std.specs.Prelude.{◌≡◌};
 ghost use Rattle.row_list.specs.Listed.{session_after};
 

@@ -1,0 +1,16 @@
+-- `pool_doors::put_door` meets its contract.
+use native.Mathlib.Omega.{arith}
+use Rattle.unit.specs.Numbers.{doors_n}
+use Rattle.pool.proofs.PlacedLaws.{put_past, put_in}
+use Rattle.pool_doors.proofs.put_door.Goals as goal
+
+pub returns-then-d-ge-DOORS : goal.returns-then-d-ge-DOORS
+unfolding doors_n
+returns-then-d-ge-DOORS c = let a = c.args in put_past a.doors.now a.d _ (omega arith)
+
+pub returns : goal.returns
+unfolding doors_n
+returns c =
+    let a = c.args in
+    let h = c.bytes_of-bytes.ensures in
+    put_in a.doors.now a.d _ a.position (omega arith) h.0 h.1 h.2

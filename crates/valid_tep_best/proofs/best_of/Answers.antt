@@ -1,0 +1,50 @@
+-- `best_of` meets its contract: the loop's invariant is `Chosen`.
+use mathlib.Core.Path.{◌∙◌}
+use Prim.Native.Nat.{◌-◌}
+use mathlib.Core.Logic.{⊎_elim}
+use native.Mathlib.Omega.{arith}
+use Rattle.valid_tep_best.proofs.Choosing.{chosen_start, chosen_step, chosen_all}
+use Rattle.valid_tep.specs.declared.Best.{Best}
+use Rattle.valid_tep_best.proofs.Steps.{best_as, better_taken, better_kept}
+use Rattle.valid_tep_best.proofs.best_of.Goals as goal
+
+-- the best before a TEP, and after it
+
+abbrev best : tie.Joined1 invariant-loop decreases-loop → Best
+best c = let l = c.before.before.before.before.before.before.before.before.before.loop in best_as l.found l.start l.resumed
+
+pub loop-t-init : goal.loop-t-init
+loop-t-init c = chosen_start _ _ _ _ _ _
+
+pub overflow_sub-k : goal.overflow_sub-k
+overflow_sub-k c = let h = c.loop-t.invariant in omega arith
+
+pub bounds-own-k : goal.bounds-own-k
+bounds-own-k c = let h = c.loop-t.invariant in omega arith
+
+pub bounds-peer-k : goal.bounds-peer-k
+bounds-peer-k c = let h = c.loop-t.invariant in omega arith
+
+pub of_a-ea-requires : goal.of_a-ea-requires
+of_a-ea-requires c = tt
+
+pub of_b-eb-requires : goal.of_b-eb-requires
+of_b-eb-requires c = tt
+
+pub way_of-v-requires : goal.way_of-v-requires
+way_of-v-requires c = tt
+
+pub is_later-requires : goal.is_later-requires
+is_later-requires c = tt
+
+pub is_resumed-resumed-requires : goal.is_resumed-resumed-requires
+is_resumed-resumed-requires c = tt
+
+pub overflow_add-t : goal.overflow_add-t
+overflow_add-t c = omega arith
+
+pub loop-t-smaller : goal.loop-t-smaller
+loop-t-smaller c = omega arith
+
+pub returns : goal.returns
+returns c = chosen_all _ _ _ _ _ _ c.loop-t.invariant c.loop-t-test.false
