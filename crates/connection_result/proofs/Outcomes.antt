@@ -3,12 +3,10 @@ use Prim.Native.Nat.{ℕ, ◌+◌, ◌-◌, ◌≤◌, ◌<◌, min}
 use mathlib.Core.Path.{◌≡◌, refl, sym, ◌∙◌, ap, ap₂}
 use mathlib.Core.List.{List, ◌++◌}
 use mathlib.Core.Bool.{Bool, true, false, cond, ◌||◌}
-use mathlib.Core.Logic.{◌⊎◌, ⊎_elim}
 use native.Mathlib.Omega.{arith}
 use borrow.Author.Tests.{lt-ltb, le-ltb}
 use lib.Dec.{ltb, eqb}
 use lib.ListN.{length, take, drop, replicate, length-append}
-use denote.Enum.Declared
 use Rattle.wire.specs.Bytes.{pasted}
 use Rattle.wire.specs.ByteLaws.{pasted_twice}
 use Rattle.eno.specs.Judge.{of_a, of_b, way_if}
@@ -37,16 +35,13 @@ both_written s own peer c room a b once twice ea eb eo et =
     fit false p q = let x = ap length p in let y = ap length q in omega arith
 
 -- neither Open nor Plain
-abbrev pub tag : Phase → ℕ
-tag p = Declared.tag_of (Declared.declared Rattle.door.specs.contracts.Phase.enum) p
-
-unsettled : (p : Phase) → (tag p ≡ 0) ⊎ ((tag p ≡ 1) ⊎ ((tag p ≡ 2) ⊎ (tag p ≡ 3))) → is_open (phase_as p) || is_plain (phase_as p) ≡ false
-unsettled phase.Idle h = refl
-unsettled phase.Offered h = refl
-unsettled phase.Crossed h = refl
-unsettled phase.Answered h = refl
-unsettled phase.Open h = absurd (⊎_elim (λ e. omega arith) (⊎_elim (λ e. omega arith) (⊎_elim (λ e. omega arith) (λ e. omega arith))) h)
-unsettled phase.Plain h = absurd (⊎_elim (λ e. omega arith) (⊎_elim (λ e. omega arith) (⊎_elim (λ e. omega arith) (λ e. omega arith))) h)
+unsettled : (p : Phase) → (p ≡ phase.Open → ⊥) → (p ≡ phase.Plain → ⊥) → is_open (phase_as p) || is_plain (phase_as p) ≡ false
+unsettled phase.Idle o q = refl
+unsettled phase.Offered o q = refl
+unsettled phase.Crossed o q = refl
+unsettled phase.Answered o q = refl
+unsettled phase.Open o q = absurd (o refl)
+unsettled phase.Plain o q = absurd (q refl)
 
 -- result
 module _ (d : Door) (s : List ℕ) where
@@ -94,10 +89,10 @@ module _ (d : Door) (s : List ℕ) where
     unfolding result
     plain_told e = told_by _ (outcome_as (plain d.cause) s d keep) _ refl (rw (sym ep ∙ ap phase_as e) (two_tests _ _ _ _ _ _ _)) refl
 
-    pub out_told : (tag p ≡ 0) ⊎ ((tag p ≡ 1) ⊎ ((tag p ≡ 2) ⊎ (tag p ≡ 3))) → Told (outcome_as (refused 4) s d keep) (replicate 32 0)
+    pub out_told : (p ≡ phase.Open → ⊥) → (p ≡ phase.Plain → ⊥) → Told (outcome_as (refused 4) s d keep) (replicate 32 0)
     unfolding result
-    out_told h =
-        let u : is_open (phase_of d.phase) || is_plain (phase_of d.phase) ≡ false = rw ep at (unsettled p h) in
+    out_told o q =
+        let u : is_open (phase_of d.phase) || is_plain (phase_of d.phase) ≡ false = rw ep at (unsettled p o q) in
         told_by _ (outcome_as (refused 4) s d keep) _ refl (two_tests _ _ _ _ _ _ _ ∙ simp u) refl
 
 pub is_open_lem : (d : Door) (p : Phase) → phase_as p ≡ phase_of d.phase → p ≡ phase.Open → phase_of d.phase ≡ opened

@@ -1,4 +1,6 @@
 // What an answer comes to: plain TCP and its reason, or the TEP that is answered and the record that is resumed. Total for every view and every argument.
+#![tactic(auto)]
+
 ghost use Rattle.std.specs.Prelude.{◌≡◌, true};
 ghost use Rattle.eno.specs.Area.{finding};
 ghost use Rattle.eno.specs.Cause.{numbered};

@@ -1,4 +1,6 @@
 // Rekeying is initiated.
+#![tactic(auto)]
+
 ghost use Rattle.std.specs.Prelude.{◌≡◌, ◌&&◌, not, ltb};
 ghost use Rattle.generation.specs.Steps.{Ask, outcome};
 ghost use Rattle.generation.specs.Answers.{step_of};

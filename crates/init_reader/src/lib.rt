@@ -1,4 +1,6 @@
 // Init1 and Init2, read as far as bytes are at hand.
+#![tactic(auto)]
+
 ghost use Rattle.std.specs.Prelude.{◌≡◌, ◌+◌, ◌≤◌, length};
 ghost use Rattle.wire.specs.Bytes.{bytes_from};
 ghost use Rattle.init_layout.specs.Reading.{took, reading_as, zeros, padded, read_init1, read_init2};

@@ -1,4 +1,6 @@
 // The judge: what two option areas, this end's own and the other side's, come to.
+#![tactic(auto)]
+
 ghost use Rattle.std.specs.Prelude.{◌≡◌, ◌≤◌, length};
 ghost use Rattle.eno.specs.Session.{in_hand};
 ghost use Rattle.eno.specs.Judge.{judge};

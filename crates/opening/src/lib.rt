@@ -1,4 +1,6 @@
 // What offer and answer share: the test of their terms, the record that is taken in hand, and what they give back. Total for every view and every argument.
+#![tactic(auto)]
+
 ghost use Rattle.std.specs.Prelude.{◌≡◌};
 ghost use Rattle.door.specs.Door.{seen_of, hand_of, no_session};
 ghost use Rattle.door.specs.Record.{record_at};

@@ -1,4 +1,6 @@
 // The option of an answer, as the offer of one TEP by host B.
+#![tactic(auto)]
+
 ghost use Rattle.std.specs.Prelude.{◌≡◌};
 ghost use Rattle.eno.specs.Session.{in_hand};
 ghost use Rattle.eno.specs.Option.{written_as, write_answer};

@@ -1,4 +1,6 @@
 // The option writer: the ENO option that an offer sends.
+#![tactic(auto)]
+
 ghost use Rattle.std.specs.Prelude.{◌≡◌, ◌∷◌, [], ◌+◌, ◌≤◌, length};
 ghost use Rattle.eno.specs.Area.{eno_kind};
 ghost use Rattle.eno.specs.Session.{in_hand};

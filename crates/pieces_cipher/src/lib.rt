@@ -1,4 +1,6 @@
 // The cipher that is taken from an Init message in a reader's gathered bytes, if any.
+#![tactic(auto)]
+
 ghost use Rattle.std.specs.Prelude.{◌≡◌, ◌≤◌};
 ghost use Rattle.eno.specs.Option.{is_listed};
 ghost use Rattle.init_layout.specs.Reading.{ciphers_at};

@@ -1,4 +1,6 @@
 // Whether the byte of an Init message that was gathered last settles that no continuation is readable.
+#![tactic(auto)]
+
 ghost use Rattle.std.specs.Prelude.{◌≡◌, ◌≤◌, ◌<◌};
 ghost use Rattle.eno.specs.Tep.{key_length};
 ghost use Rattle.init_layout.specs.Reading.{ciphers_from, standing_of};

@@ -1,4 +1,6 @@
 // What a door sees: its own data, and the records of the rows that it lists.
+#![tactic(auto)]
+
 ghost use Rattle.std.specs.Prelude.{◌≡◌};
 ghost use Rattle.door.specs.Door.{seen_of};
 ghost use Rattle.pool.specs.Placed.{seen_in, view_in};

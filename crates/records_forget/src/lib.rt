@@ -1,4 +1,6 @@
 // Forget of one door: a record less.
+#![tactic(auto)]
+
 ghost use Rattle.std.specs.Prelude.{◌≡◌, []};
 ghost use Rattle.door.specs.Door.{seen_of, no_session};
 ghost use Rattle.door.specs.Records as records;

@@ -1,4 +1,6 @@
 // Store of one door: a record more.
+#![tactic(auto)]
+
 ghost use Rattle.std.specs.Prelude.{◌≡◌, length};
 ghost use Rattle.door.specs.Door.{seen_of};
 ghost use Rattle.door.specs.Records as records;

@@ -1,11 +1,11 @@
 -- A list of row numbers closes up where one is cut out.
 use mathlib.Core.Path.{◌≡◌, refl, sym, ap, ◌∙◌}
 use mathlib.Core.List.{List, [], ◌∷◌, ◌++◌}
-use Prim.Native.Nat.{ℕ, zero, suc, ◌+◌, ◌-◌, ◌≤◌, ◌<◌}
+use Prim.Native.Nat.{ℕ, zero, suc, ◌+◌, ◌≤◌, ◌<◌}
 use native.Mathlib.Omega.{arith}
 use native.Mathlib.Numerals.{add-one}
 use lib.ListN.{length, get_or, take, set, length-append, length-set, get_or-eq_default}
-use lib.Seq.{take-suc, take-suc-set, take_all, take-append-le}
+use lib.Seq.{take-suc, take-suc-set, take_all}
 use Rattle.door.specs.Calls.{cut}
 use Rattle.unit.proofs.Laws.Lists.{length_cut}
 

@@ -1,4 +1,6 @@
 // The TEP that an answer chooses of a list in rising priority, and the record that is resumed with it. Total for every view and every argument.
+#![tactic(auto)]
+
 ghost use Rattle.std.specs.Prelude.{◌≡◌};
 ghost use Rattle.door.specs.Door.{seen_of};
 ghost use Rattle.tep_choice.specs.Choosing.{decision_of, entry_of, candidate_by, fitting_by, last_resumed, last_fresh, chosen_by};

@@ -1,13 +1,10 @@
 -- The cases of the steps by which the last valid TEP is found, each from facts about numbers. Assumes nothing.
-use Prim.Native.Nat.{ℕ, ◌-◌}
+use Prim.Native.Nat.{ℕ}
 use mathlib.Core.Path.{◌≡◌, refl, sym, ◌∙◌, ap}
 use mathlib.Core.Bool.{Bool, true, false, cond}
 use mathlib.Core.Option.{Option}
-use mathlib.Core.Logic.{◌⊎◌, ⊎_elim}
-use native.Mathlib.Omega.{arith}
 use lib.Dec.{ltb}
-use denote.Enum.Declared
-use Rattle.eno.specs.Judge.{Way, resumed, of_a, of_b}
+use Rattle.eno.specs.Judge.{Way, of_a, of_b}
 use Rattle.valid_tep.specs.Best.{way_as, is_later, resumed_by, better_of}
 use Rattle.valid_tep.specs.declared.Validity.{Validity}
 use Rattle.valid_tep.specs.declared.Validity.TheVariants as validity
@@ -31,25 +28,22 @@ module _ {X : Type 0} (b : Bool) (own peer : X) where
   unfolding of_a
   a_own e = rw e
 
-abbrev pub tag : Validity → ℕ
-tag v = Declared.tag_of (Declared.declared Rattle.valid_tep.specs.contracts.Validity.enum) v
-
 -- whether a TEP stands behind the one found so far
 module _ (found : Bool) (start at : ℕ) where
   pub later_invalid : (v : Validity) → v ≡ validity.Invalid → false ≡ is_later found start (way_as v) at
   unfolding is_later
   later_invalid v e = rw e refl
 
-  valid_later : (v : Validity) → (tag v ≡ 1) ⊎ (tag v ≡ 2) → cond found (ltb start at) true ≡ is_later found start (way_as v) at
+  valid_later : (v : Validity) → (v ≡ validity.Invalid → ⊥) → cond found (ltb start at) true ≡ is_later found start (way_as v) at
   unfolding is_later
-  valid_later validity.Invalid h = absurd (⊎_elim (λ e. omega arith) (λ e. omega arith) h)
+  valid_later validity.Invalid h = absurd (h refl)
   valid_later validity.Fresh h = refl
   valid_later validity.Resumed h = refl
 
-  pub later_behind : found ≡ true → (v : Validity) → (tag v ≡ 1) ⊎ (tag v ≡ 2) → ltb start at ≡ is_later found start (way_as v) at
+  pub later_behind : found ≡ true → (v : Validity) → (v ≡ validity.Invalid → ⊥) → ltb start at ≡ is_later found start (way_as v) at
   later_behind e v h = ap (λ b. cond b (ltb start at) true) (sym e) ∙ valid_later v h
 
-  pub later_first : found ≡ false → (v : Validity) → (tag v ≡ 1) ⊎ (tag v ≡ 2) → true ≡ is_later found start (way_as v) at
+  pub later_first : found ≡ false → (v : Validity) → (v ≡ validity.Invalid → ⊥) → true ≡ is_later found start (way_as v) at
   later_first e v h = ap (λ b. cond b (ltb start at) true) (sym e) ∙ valid_later v h
 
 -- whether it is resumed
@@ -57,11 +51,11 @@ pub resumed_is : (v : Validity) → v ≡ validity.Resumed → true ≡ resumed_
 unfolding resumed_by
 resumed_is v e = rw e refl
 
-pub resumed_not : (v : Validity) → (tag v ≡ 0) ⊎ (tag v ≡ 1) → false ≡ resumed_by (way_as v)
+pub resumed_not : (v : Validity) → (v ≡ validity.Resumed → ⊥) → false ≡ resumed_by (way_as v)
 unfolding resumed_by
 resumed_not validity.Invalid h = refl
 resumed_not validity.Fresh h = refl
-resumed_not validity.Resumed h = absurd (⊎_elim (λ e. omega arith) (λ e. omega arith) h)
+resumed_not validity.Resumed h = absurd (h refl)
 
 abbrev pub best_as : Bool → ℕ → Bool → Best
 best_as found start again = record { found = found; start = start; resumed = again }

@@ -7,3 +7,6 @@ open_result-requires c = is_open_lem c.args.door c.phase_of-phase.result c.phase
 
 pub returns-in-Plain : goal.returns-in-Plain
 returns-in-Plain c = plain_told _ _ c.phase_of-phase.result c.phase_of-phase.ensures c.in-Plain.is
+
+pub returns-in_default : goal.returns-in_default
+returns-in_default c = out_told _ _ c.phase_of-phase.result c.phase_of-phase.ensures c.in_default.not-Open c.in_default.not-Plain

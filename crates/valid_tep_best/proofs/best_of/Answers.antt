@@ -1,17 +1,10 @@
 -- `best_of` meets its contract: the loop's invariant is `Chosen`.
 use mathlib.Core.Path.{◌∙◌}
-use Prim.Native.Nat.{◌-◌}
-use mathlib.Core.Logic.{⊎_elim}
 use native.Mathlib.Omega.{arith}
 use Rattle.valid_tep_best.proofs.Choosing.{chosen_start, chosen_step, chosen_all}
-use Rattle.valid_tep.specs.declared.Best.{Best}
 use Rattle.valid_tep_best.proofs.Steps.{best_as, better_taken, better_kept}
 use Rattle.valid_tep_best.proofs.best_of.Goals as goal
-
--- the best before a TEP, and after it
-
-abbrev best : tie.Joined1 invariant-loop decreases-loop → Best
-best c = let l = c.before.before.before.before.before.before.before.before.before.loop in best_as l.found l.start l.resumed
+use Rattle.valid_tep_best.proofs.best_of.Goals.{then-is_later, else-is_later}
 
 pub loop-t-init : goal.loop-t-init
 loop-t-init c = chosen_start _ _ _ _ _ _
@@ -48,3 +41,13 @@ loop-t-smaller c = omega arith
 
 pub returns : goal.returns
 returns c = chosen_all _ _ _ _ _ _ c.loop-t.invariant c.loop-t-test.false
+
+pub loop-t-preserved : goal.loop-t-preserved
+loop-t-preserved c =
+    let l = c.loop-t in
+    let best = best_as l.found l.start l.resumed in
+    chosen_step _ _ _ _ _ _ l.invariant c.loop-t-test.true _ _ _ _ c.of_a-ea.ensures c.of_b-eb.ensures c.way_of-v.ensures
+    (elim c.if-is_later.branch [
+      | then-is_later w ↦ better_taken best _ _ _ c.is_later.ensures _ _ _ w.if-is_later.true w.found-is w.start-is (w.resumed-is ∙ w.is_resumed-resumed.ensures)
+      | else-is_later w ↦ better_kept best _ _ _ c.is_later.ensures _ _ _ w.if-is_later.false w.found-is w.start-is w.resumed-is
+    ])
