@@ -1,14 +1,12 @@
 -- The outcomes of an answer, by the tests that lead to each.
 use Prim.Native.Nat.{ℕ, ◌≤◌, ◌<◌}
 use mathlib.Core.Path.{◌≡◌, refl, sym, ◌∙◌, ap, ap₂}
-use mathlib.Core.List.{List, [], ◌∷◌}
-use mathlib.Core.Bool.{Bool, true, false, cond, not, ◌&&◌}
+use mathlib.Core.List.{List}
+use mathlib.Core.Bool.{Bool, true, false}
 use mathlib.Core.Option.{Option, none, some}
 use native.Mathlib.Omega.{arith}
 use borrow.Author.Tests.{lt-ltb, le-ltb}
-use lib.Dec.{ltb}
 use lib.ListN.{length}
-use Rattle.wire.specs.Bytes.{pasted}
 use Rattle.eno.specs.Area.{syn_option}
 use Rattle.eno.specs.Option.{answered, option_with, answer_fits}
 use Rattle.eno.specs.declared.Cause.{Cause}
@@ -16,7 +14,7 @@ use Rattle.door.specs.Door.{Seen, phase_of}
 use Rattle.door.specs.Record.{record_at}
 use Rattle.door.specs.Outcome.{Outcome, Effect, refused, written, plain, keep, refusal, unless}
 use Rattle.door.specs.Offer.{is_idle, terms_fit}
-use Rattle.door.specs.Answer.{Choice, Answering, plain_for, with, answering, choose_tep, answer_reason, reason_or, chosen_or, plain_door, answered_door, answer_with, answer_length, answer}
+use Rattle.door.specs.Answer.{Choice, plain_for, with, answering, choose_tep, answer_reason, reason_or, chosen_or, plain_door, answered_door, answer_with, answer_length, answer}
 use Rattle.door.specs.Answers.{outcome_as}
 use Rattle.door.specs.declared.Door.{Door}
 use Rattle.tep_choice.specs.Choosing.{chosen}

@@ -1,4 +1,6 @@
 // Answer: the option that a door sends back to a received SYN as host B, and the record that it takes in hand, or plain TCP. Total for every view and every argument.
+#![tactic(auto)]
+
 ghost use Rattle.std.specs.Prelude.{◌≡◌, [], true, ◌≤◌, ◌<◌, length};
 ghost use Rattle.eno.specs.Option.{answer_fits};
 ghost use Rattle.door.specs.Door.{seen_of, no_session};

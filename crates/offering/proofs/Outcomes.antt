@@ -1,12 +1,10 @@
 -- The outcomes of an offer, by the tests that lead to each.
 use Prim.Native.Nat.{ℕ, ◌≤◌, ◌<◌}
 use mathlib.Core.Path.{◌≡◌, sym, ◌∙◌}
-use mathlib.Core.List.{List, [], ◌∷◌}
-use mathlib.Core.Bool.{Bool, true, false, cond, not, ◌&&◌}
+use mathlib.Core.List.{List}
+use mathlib.Core.Bool.{Bool, true, false}
 use borrow.Author.Tests.{lt-ltb, le-ltb, le-leb, lt-leb}
-use lib.Dec.{ltb, leb}
 use lib.ListN.{length}
-use Rattle.wire.specs.Bytes.{pasted}
 use Rattle.eno.specs.Option.{offered, option_with}
 use Rattle.door.specs.Door.{Seen, phase_of}
 use Rattle.door.specs.Record.{record_at}

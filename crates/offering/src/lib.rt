@@ -1,4 +1,6 @@
 // Offer: the option that a door sends first in an active open, or one that may cross, and the record that it takes in hand. Total for every view and every argument.
+#![tactic(auto)]
+
 ghost use Rattle.std.specs.Prelude.{◌≡◌, [], true, ◌≤◌, length};
 ghost use Rattle.eno.specs.Option.{offer_fits};
 ghost use Rattle.door.specs.Door.{seen_of, no_session};

@@ -1,6 +1,5 @@
 -- Strike the TEPs that are not valid, take the last: the definition of the judgement, read as RFC 8547 reads.
-use Rattle.std.specs.Prelude.{ℕ, ◌≡◌, Bool, true, false, cond}
-use Rattle.std.proofs.Common.{◌∙◌}
+use Rattle.std.specs.Prelude.{ℕ, Bool, true, false, cond}
 use mathlib.Core.List.{List, [], ◌∷◌}
 use Rattle.std.proofs.Math.Option.{Option, none, some}
 use Rattle.eno.specs.Suboption.{Sent, name}

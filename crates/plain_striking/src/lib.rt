@@ -1,4 +1,6 @@
 // Strike the suboptions that are not valid from a list.
+#![tactic(auto)]
+
 ghost use Rattle.std.specs.Prelude.{◌≡◌, map, ◌≤◌};
 ghost use Rattle.eno.specs.Suboption.{tep, teps};
 ghost use Rattle.eno.specs.Session.{in_hand};

@@ -1,4 +1,6 @@
 // A call's effect, carried out in place on rows, marks and the door.
+#![tactic(auto)]
+
 ghost use Rattle.pool.specs.Placed.{Enacts};
 
 use door::{Change, Door};

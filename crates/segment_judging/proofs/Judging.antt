@@ -6,7 +6,7 @@ use mathlib.Core.Bool.{Bool, true, false, cond}
 use lib.ListN.{take, drop}
 use Rattle.eno.specs.Area.{finding, part_of, syn_option}
 use Rattle.eno.specs.Session.{in_hand}
-use Rattle.eno.specs.judged_option.{Judged, judge, way_if}
+use Rattle.eno.specs.Judge.{Judged, judge, way_if}
 use Rattle.eno.specs.declared.Cause.{Cause}
 use Rattle.judgement.specs.Answers.{cause_of, judged_of, Judges}
 use Rattle.judgement.specs.Answers as judge-answers

@@ -1,4 +1,6 @@
 // What one door does with the first segment of the other side: it is judged.
+#![tactic(auto)]
+
 ghost use Rattle.std.specs.Prelude.{◌≡◌, cond, ◌≤◌, length};
 ghost use Rattle.eno.specs.Judge.{way_if};
 ghost use Rattle.door.specs.Door.{crossed, opened};

@@ -1,4 +1,6 @@
 // What one door does with a segment that arrives. Total for every door and every argument.
+#![tactic(auto)]
+
 ghost use Rattle.std.specs.Prelude.{◌≡◌, [], cond};
 ghost use Rattle.door.specs.Door.{answering, opened};
 ghost use Rattle.door.specs.Outcome.{keep};

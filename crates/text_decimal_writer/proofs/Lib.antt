@@ -1,2 +1,2 @@
--- The law that the proof of the function cites.
-pub mod IoDigits
+-- The digits of a number, written from the last on.
+pub mod FromTheEnd

@@ -1,4 +1,6 @@
 // answer: the unit's call that answers a received SYN, for any door number, any bytes and any content of the unit.
+#![tactic(auto)]
+
 ghost use Rattle.std.specs.Prelude.{◌≡◌};
 ghost use Rattle.door.specs.Calls.{answer};
 ghost use Rattle.unit.specs.Run.{on, step};

@@ -1,4 +1,6 @@
 // close: the unit's call that ends a connection, for any door number and any content of the unit.
+#![tactic(auto)]
+
 ghost use Rattle.std.specs.Prelude.{◌≡◌, []};
 ghost use Rattle.door.specs.Calls.{close};
 ghost use Rattle.unit.specs.Run.{on, step};

@@ -1,4 +1,6 @@
 // offer: the unit's call that opens a connection, for any door number, any bytes and any content of the unit.
+#![tactic(auto)]
+
 ghost use Rattle.std.specs.Prelude.{◌≡◌};
 ghost use Rattle.door.specs.Calls.{offer};
 ghost use Rattle.unit.specs.Run.{on, step};

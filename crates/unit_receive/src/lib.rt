@@ -1,4 +1,6 @@
 // receive: the unit's call on a received segment, for any door number, any bytes and any content of the unit.
+#![tactic(auto)]
+
 ghost use Rattle.std.specs.Prelude.{◌≡◌, []};
 ghost use Rattle.door.specs.Calls.{receive};
 ghost use Rattle.unit.specs.Run.{on, step};

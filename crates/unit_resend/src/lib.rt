@@ -1,4 +1,6 @@
 // resend: the unit's call that writes the option once more, for any door number, any buffer and any content of the unit.
+#![tactic(auto)]
+
 ghost use Rattle.std.specs.Prelude.{◌≡◌};
 ghost use Rattle.door.specs.Calls.{resend};
 ghost use Rattle.unit.specs.Run.{on, step};

@@ -1,4 +1,6 @@
 // result: the unit's call that tells what a connection is, for any door number, any buffer and any content of the unit.
+#![tactic(auto)]
+
 ghost use Rattle.std.specs.Prelude.{◌≡◌};
 ghost use Rattle.door.specs.Answers.{secret_beside};
 ghost use Rattle.door.specs.Calls.{result as ask_result};

@@ -6,7 +6,6 @@ use Rattle.init_layout.specs.Layout.{magic_of}
 use Rattle.init1_writer.proofs.Sending.{init1_parts, init1_list, init1_few, init1_small, init1_no_room, init1_wrote}
 use Rattle.init1_writer.proofs.init1_write.Goals as goal
 
-
 pub returns-then-not-parts_fit : goal.returns-then-not-parts_fit
 returns-then-not-parts_fit c = init1_parts _ _ _ _ _ (sym c.if-not-parts_fit.ensures)
 
