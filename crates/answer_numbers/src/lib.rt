@@ -1,4 +1,6 @@
 // Document 01's number of each answer, as the answer's own crate defines it; 0 where nothing is refused.
+#![tactic(auto)]
+
 ghost use Rattle.std.specs.Prelude.{◌≡◌};
 ghost use Rattle.door.specs.Answers.{refusal_number};
 ghost use Rattle.finder.specs.Answers.{status_of};

@@ -1,4 +1,6 @@
 // Encryption frames: headers, offsets, frame IDs, nonces and plaintexts, for any bytes and any lent buffer: the calls and what they answer.
+#![tactic(auto)]
+
 pub use frame_header::{read_header, write_header};
 pub use frame_layout::{
     HeaderRead, HeaderSays, HeaderWritten, NextOffset, NonceMade, NonceSays, PlaintextRead,

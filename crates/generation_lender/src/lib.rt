@@ -1,4 +1,6 @@
 // Rekeying by a holder of the record: each step lends it by `&mut` to the function of crate `generation_lent` and gives back the record as that leaves it, with the answer.
+#![tactic(auto)]
+
 ghost use Rattle.std.specs.Prelude.{◌≡◌};
 ghost use Rattle.generation.specs.Steps.{Ask, outcome};
 ghost use Rattle.generation.specs.Answers.{step_of};

@@ -1,4 +1,6 @@
 // Rekeying on a record that is lent: the steps of crate `generation`, each changing the connection's record in place.
+#![tactic(auto)]
+
 ghost use Rattle.std.specs.Prelude.{◌≡◌};
 ghost use Rattle.generation.specs.Steps.{Ask, outcome};
 ghost use Rattle.generation.specs.Answers.{lent};

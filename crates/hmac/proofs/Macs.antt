@@ -1,24 +1,21 @@
 -- HMAC's two hashes: what they come to, and when one of them is too long. Assumes nothing.
 use Prim.Native.Nat.{ℕ, ◌+◌, ◌-◌, ◌^◌, ◌≤◌, ◌<◌}
 use mathlib.Core.Path.{◌≡◌, refl, sym, ◌∙◌, ap, ap₂}
-use mathlib.Core.List.{List, [], ◌∷◌, ◌++◌, append-nil}
-use mathlib.Core.Bool.{Bool, true, false, ◌||◌}
+use mathlib.Core.List.{List, [], ◌++◌, append-nil}
+use mathlib.Core.Bool.{true, false, ◌||◌}
 use native.Mathlib.Omega.{arith}
-use borrow.Author.Tests.{le-leb, lt-leb, le-ltb, ltb-false}
-use lib.Dec.{ltb, leb}
-use lib.ListN.{length, replicate, length-append}
-use Rattle.refusals.specs.Rows.{refusal}
+use borrow.Author.Tests.{le-leb, lt-leb, le-ltb}
+use lib.ListN.{length, length-append}
 use Rattle.hash_layout.specs.declared.HashSays.{HashSays}
 use Rattle.hash_layout.specs.declared.HashSays.TheVariants as k
 use Rattle.hash_layout.specs.declared.Hashed.{Hashed}
 use Rattle.hash_layout.specs.Sha256.{sha256}
 use Rattle.hash_layout.specs.Hmac.{block_of, key_block, xor_all, hmac}
 use Rattle.hash_layout.proofs.Lengths.{length_sha}
-use Rattle.hash_layout.specs.Outcome.{Outcome, unless}
-use Rattle.hash_layout.specs.Calls.{hash, mac, longest, too_long, mac_too_long, digest, outcome}
+use Rattle.hash_layout.specs.Calls.{hash, mac, longest, too_long, mac_too_long, outcome}
 use Rattle.hash_layout.specs.Answers.{hash_told}
 use Rattle.hmac.specs.Keyed.{keyed, keyed_outcome, outer_by, outer_outcome}
-use Rattle.hmac.specs.Told.{no_digest, tested, tested_no, tested_yes, told_made, told_long}
+use Rattle.hmac.specs.Told.{tested, tested_no, tested_yes, told_made, told_long}
 use Rattle.hmac.proofs.Blocks.{xor_length}
 
 pub hash_is : (m : List ℕ) → outcome (hash m) ≡ tested (too_long (length m)) (sha256 m)

@@ -4,7 +4,6 @@ use Rattle.std.proofs.Math.Path.{◌≡◌, ap}
 use Rattle.std.proofs.Common.{sym, ◌∙◌, arith}
 use Rattle.std.proofs.Math.Bool.{true, false}
 use Rattle.refusals.specs.Rows.{refusal}
-use Rattle.hash_layout.specs.declared.HashSays.{HashSays}
 use Rattle.hash_layout.specs.declared.HashSays.TheVariants as k
 use Rattle.hash_layout.specs.declared.Hashed.{Hashed}
 use Rattle.hash_layout.specs.Outcome.{Reply, refused, made, written, Outcome, unless}

@@ -1,4 +1,6 @@
 // HMAC-SHA-256 (RFC 2104) of a message, and of one that is given in four parts. Which way is taken and which index is read depends on lengths alone, never on the bytes.
+#![tactic(auto)]
+
 ghost use Rattle.std.specs.Prelude.{◌≡◌, ◌≤◌, ◌++◌, length};
 ghost use Rattle.hash_layout.specs.Hmac.{block_of, xor_all};
 ghost use Rattle.hash_layout.specs.Calls.{Ask, outcome};

@@ -1,4 +1,5 @@
 // What the calls on frames give back, in plain numbers. The definitions and laws are in specs/; the crates above make the numbers.
+#![tactic(auto)]
 
 // What reading a header gives; all but kind and number are zeros beside a refusal.
 #[repr(C)]

@@ -1,4 +1,6 @@
 // The unit's replies in plain numbers, for the exported calls.
+#![tactic(auto)]
+
 ghost use Rattle.std.specs.Prelude.{◌≡◌, []};
 ghost use Rattle.door.specs.Answers.{refusal_number, phase_as, reply_of};
 ghost use Rattle.host_numbers.specs.Replies.{phase_told, numbers_of};

@@ -3,7 +3,7 @@ use Prim.Native.Nat.{ℕ, ◌-◌, ◌%◌, ◌≤◌, ◌<◌}
 use mathlib.Core.Path.{◌≡◌, refl, sym, ◌∙◌, ap, ap₂}
 use mathlib.Core.List.{List, [], ◌∷◌}
 use mathlib.Core.Bool.{Bool, true, false, cond, ◌&&◌}
-use mathlib.Core.Option.{Option, none, some}
+use mathlib.Core.Option.{none}
 use native.Mathlib.Omega.{arith}
 use borrow.Author.Tests.{lt-ltb, le-ltb, eq-eqb, ne_eqb}
 use lib.Dec.{leb, eqb}
@@ -13,7 +13,7 @@ use Rattle.wire.specs.Bytes.{part}
 use Rattle.refusals.specs.Rows.{refusal}
 use Rattle.eno.specs.Tep.{is_known, tep_of}
 use Rattle.eno.specs.declared.Tep.{Tep}
-use Rattle.key_terms.specs.Terms.{Terms, option_of_a, option_of_b, is_whole, resumption_data, terms_by, terms}
+use Rattle.key_terms.specs.Terms.{option_of_a, option_of_b, is_whole, resumption_data, terms_by, terms}
 use Rattle.key_terms.specs.Calls.{refused, no_terms, Outcome, zeros, given, unless, unfit, resumption_terms}
 use Rattle.key_terms.proofs.Wholes.{whole_short}
 use Rattle.key_terms.proofs.Giving.{own_none, peer_none}

@@ -1,5 +1,5 @@
 -- Worked examples by computation: a session resumed, seen at each end, with and without nonces; what has no terms.
-use Rattle.std.specs.Prelude.{ℕ, ◌≡◌, refl, List, [], ◌∷◌, ◌++◌, replicate}
+use Rattle.std.specs.Prelude.{ℕ, refl, List, [], ◌∷◌, ◌++◌, replicate}
 use Rattle.wire.specs.Bytes.{part, same_bytes}
 use Rattle.refusals.specs.Rows.{refusal}
 use Rattle.eno.specs.Walk.{items, items_of}

@@ -1,14 +1,14 @@
 -- The terms by two options: the nonces in their arrays, and what is given. Assumes nothing.
-use Prim.Native.Nat.{ℕ, zero, suc, ◌+◌, ◌-◌, ◌≤◌}
+use Prim.Native.Nat.{ℕ, zero, suc, ◌+◌, ◌-◌}
 use mathlib.Core.Path.{◌≡◌, refl, sym, ◌∙◌, ap, ap₂}
-use mathlib.Core.List.{List, [], ◌∷◌, ◌++◌}
+use mathlib.Core.List.{List, ◌++◌}
 use mathlib.Core.Option.{Option, none, some}
 use native.Mathlib.Omega.{arith}
 use lib.ListN.{length, take, drop, replicate}
 use Rattle.wire.specs.Bytes.{part, pasted}
 use Rattle.wire.specs.ByteLaws.{pasted_fits, length_part}
-use Rattle.key_terms.specs.Terms.{Data, Terms, resumption_data, half_in, nonce_in, original_role, keyed_by, carrying, terms_by}
-use Rattle.key_terms.specs.Calls.{Says, resumed, no_terms, Outcome, in_eight, zeros, given}
+use Rattle.key_terms.specs.Terms.{Data, resumption_data, half_in, nonce_in, original_role, keyed_by, carrying, terms_by}
+use Rattle.key_terms.specs.Calls.{resumed, no_terms, Outcome, in_eight, zeros, given}
 use Rattle.key_terms.specs.Answers.{says_of, terms_told}
 use Rattle.key_terms.specs.declared.TermsSays.{TermsSays}
 use Rattle.key_terms.specs.Laws.{DataFits}

@@ -1,7 +1,7 @@
 -- Laws of resumption data: it has 9 to 17 bytes, which lie within its option. Assumes nothing.
-use Rattle.std.specs.Prelude.{ℕ, ◌+◌, ◌≤◌, ◌<◌, List, [], ◌∷◌, Bool, cond, ◌&&◌, ◌||◌, ltb}
+use Rattle.std.specs.Prelude.{ℕ, ◌≤◌, ◌<◌, List, [], ◌∷◌, Bool, cond, ◌&&◌, ◌||◌, ltb}
 use Rattle.std.proofs.Math.Path.{◌≡◌, refl}
-use Rattle.std.proofs.Common.{sym, ◌∙◌, ap, subst, true≢false, inl, arith, ltb-true, ltb-false}
+use Rattle.std.proofs.Common.{sym, ap, subst, true≢false, inl, arith, ltb-true, ltb-false}
 use Rattle.std.proofs.Math.Bool.{true, false, not}
 use Rattle.std.proofs.Math.Option.{Option, none, some}
 use Rattle.eno.specs.Suboption.{Sent, suboptions, is_ill_formed}

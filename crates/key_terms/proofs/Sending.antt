@@ -1,19 +1,19 @@
 -- The resumption data of a TEP by the summary of its option. Assumes nothing.
-use Prim.Native.Nat.{ℕ, suc, ◌+◌, ◌-◌, ◌≤◌, ◌<◌}
+use Prim.Native.Nat.{ℕ, ◌-◌, ◌≤◌}
 use mathlib.Core.Path.{◌≡◌, refl, sym, ◌∙◌, ap}
 use mathlib.Core.List.{List, [], ◌∷◌}
-use mathlib.Core.Bool.{Bool, true, false, cond, not, ◌&&◌, ◌||◌}
+use mathlib.Core.Bool.{Bool, true, false, cond}
 use mathlib.Core.Option.{Option, none, some}
 use native.Mathlib.Omega.{arith}
 use native.Mathlib.Decide.{dec_lt}
 use borrow.Author.Tests.{lt-ltb, le-ltb, le-leb, lt-leb, eq-eqb, ne_eqb}
-use lib.Dec.{ltb, leb, eqb}
+use lib.Dec.{eqb}
 use lib.ListN.{length, get_or}
 use Rattle.eno.specs.Suboption.{Sent, suboptions, is_ill_formed}
 use Rattle.eno.specs.Judge.{is_fresh, is_bad, is_resumption, named, once, teps_of, role_of, aware_of}
 use Rattle.suboptions.specs.Summary.{never, as_sent, again, entry_from, entries_of, summary_of}
 use Rattle.suboptions.specs.Laws.{saying}
-use Rattle.suboptions.proofs.Laws.{summary_says, entry_of_lem, entry_times, entry_once}
+use Rattle.suboptions.proofs.Laws.{summary_says, entry_of_lem, entry_times}
 use Rattle.suboptions.specs.declared.Entry.{Entry}
 use Rattle.suboptions.specs.declared.Summary.{Summary}
 use Rattle.key_terms.specs.Terms.{Data, is_whole, data_of, resumption_data}

@@ -1,6 +1,5 @@
 -- The answer of the call in document 01's numbers and values; the view loses nothing.
-use Rattle.std.specs.Prelude.{ℕ, ◌≡◌}
-use Rattle.std.proofs.Common.{◌∙◌}
+use Rattle.std.specs.Prelude.{ℕ}
 use Rattle.std.proofs.Math.Option.{Option, none, some}
 use Rattle.key_terms.specs.Terms.{Data}
 use Rattle.key_terms.specs.Calls.{Says, refused, resumed, no_terms, Outcome}

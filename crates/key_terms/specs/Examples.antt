@@ -1,5 +1,5 @@
 -- Worked examples by computation: a session resumed, seen at each end, with and without nonces; what has no terms.
-use Rattle.std.specs.Prelude.{ℕ, ◌≡◌, List, [], ◌∷◌, ◌++◌}
+use Rattle.std.specs.Prelude.{ℕ, ◌≡◌, List, [], ◌∷◌}
 use Rattle.key_terms.specs.Calls.{Outcome, resumption_terms}
 
 -- role, TEP byte, identifier, transcript

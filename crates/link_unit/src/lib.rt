@@ -1,4 +1,6 @@
 // The unit's calls, in one place: any door number, any bytes, any order, any content of the arrays that are lent. The definitions and theorems are those of crate unit.
+#![tactic(auto)]
+
 ghost use Rattle.std.specs.Prelude.{◌≡◌, []};
 ghost use Rattle.unit.specs.Run.{step};
 ghost use Rattle.unit.specs.Run as run;

@@ -1,4 +1,6 @@
 // A reader of messages in pieces: it is started, and fed with pieces.
+#![tactic(auto)]
+
 ghost use Rattle.std.specs.Prelude.{◌≡◌};
 ghost use Rattle.pieces_layout.specs.Reader.{reader_of};
 ghost use Rattle.pieces_layout.specs.Step.{fed};

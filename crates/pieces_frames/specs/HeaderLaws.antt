@@ -12,7 +12,7 @@ use Rattle.frame_layout.specs.Outcome as frame
 use Rattle.frame_layout.specs.Outcome.{unless}
 use Rattle.frame_layout.specs.Calls.{read_header, length_in, header_in, outcome}
 use Rattle.pieces_layout.specs.Reader.{Reader, heading, stage_of, position_of, state_of, become}
-use Rattle.pieces_layout.specs.Step.{header, waiting, item, still_in, taken_as, stop, least_in, hopeless, headed, go_on, by_state, after_byte, fed_on}
+use Rattle.pieces_layout.specs.Step.{waiting, item, still_in, taken_as, stop, least_in, hopeless, headed, go_on, by_state, after_byte, fed_on}
 use Rattle.pieces_layout.specs.Answers.{header_seen}
 use Rattle.pieces_steps.specs.Later.{later}
 use Rattle.pieces_steps.specs.LaterLaws.{on_later, later_waits}

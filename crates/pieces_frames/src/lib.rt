@@ -1,4 +1,6 @@
 // Frames in pieces: a header's bytes, a body, and a reader that has refused.
+#![tactic(auto)]
+
 ghost use Rattle.std.specs.Prelude.{◌≡◌, [], ◌∷◌, ◌+◌, ◌-◌, ◌%◌, ◌≤◌, ◌<◌, length, drop};
 ghost use Rattle.frame_layout.specs.Layout.{no_frame};
 ghost use Rattle.pieces_layout.specs.Step.{least_in};

@@ -1,4 +1,6 @@
 // Init messages in pieces: bytes gathered one by one up to the ciphers' end, then at once, and what the whole message says.
+#![tactic(auto)]
+
 ghost use Rattle.std.specs.Prelude.{◌≡◌, true, false, ◌+◌, ◌≤◌, ◌<◌, length, get_or, set, drop};
 ghost use Rattle.eno.specs.Tep.{key_length};
 ghost use Rattle.init_layout.specs.Reading.{count_at, nonce_from};

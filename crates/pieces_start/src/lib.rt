@@ -1,4 +1,6 @@
 // The starts of a reader of pieces: for Init1 at B, for Init2 at A, and for frames at once.
+#![tactic(auto)]
+
 ghost use Rattle.std.specs.Prelude.{◌≡◌, [], ◌+◌, ◌*◌, ◌≤◌, length};
 ghost use Rattle.wire.specs.Bytes.{pasted};
 ghost use Rattle.init_layout.specs.Layout.{cipher_bytes};

@@ -1,4 +1,6 @@
 // The judge as plainly as RFC 8547 reads (4.1 to 4.5, 4.8): list all suboptions, strike the ones not valid, take the last.
+#![tactic(auto)]
+
 ghost use Rattle.std.specs.Prelude.{◌≡◌, ◌≤◌, length};
 ghost use Rattle.eno.specs.Suboption.{teps};
 ghost use Rattle.eno.specs.Session.{in_hand};

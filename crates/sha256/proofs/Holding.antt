@@ -3,12 +3,11 @@ use Prim.Native.Nat.{ℕ, zero, suc, ◌+◌, ◌-◌, ◌*◌, ◌/◌, ◌%◌
 use mathlib.Core.Path.{◌≡◌, refl, sym, ◌∙◌, ap, ap₂, subst}
 use mathlib.Core.List.{List, [], ◌∷◌, ◌++◌, append_assoc, append-nil}
 use native.Mathlib.Omega.{arith}
-use native.Mathlib.Nat.{add_assoc}
 use native.Mathlib.Numerals.{add-one}
 use native.Mathlib.Decide.{dec_lt}
 use borrow.Author.Tests.{lt-ltb, le-ltb, le-leb}
-use lib.ListN.{length, get_or, take, drop, set, replicate, length-set, length-append, length-drop, length-take, length-replicate, drop_of_length-le}
-use lib.Seq.{paste-suc, paste-zero, get_or-drop, paste, length-paste, take-paste, take-add, take-append-le, drop-append-le, length-take-le, take-length, take_all, take-nil, take_at, drop_at}
+use lib.ListN.{length, get_or, take, drop, set, replicate, length-append, length-drop, drop_of_length-le}
+use lib.Seq.{paste-suc, get_or-drop, paste, length-paste, take-paste, take-add, take-append-le, drop-append-le, length-take-le, take_all, drop_at}
 use Rattle.wire.specs.Number.{big_endian}
 use Rattle.refusals.specs.Rows.{refusal}
 use Rattle.hash_layout.specs.declared.Words.{Words}

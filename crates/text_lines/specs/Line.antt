@@ -1,5 +1,5 @@
 -- A line, read byte by byte to its newline: its first m bytes are kept, and what follows them makes it too long.
-use Rattle.std.specs.Prelude.{ℕ, suc, ◌+◌, ◌-◌, List, [], ◌∷◌, ◌++◌, Bool, true, false, cond, ltb, eqb, length, get_or, take}
+use Rattle.std.specs.Prelude.{ℕ, ◌+◌, ◌-◌, List, [], ◌∷◌, ◌++◌, Bool, true, false, cond, ltb, eqb, length, get_or, take}
 
 abbrev pub newline : ℕ
 newline = 10

@@ -1,7 +1,7 @@
 -- Laws of the loop that collects a line. Assumes nothing.
-use Rattle.std.specs.Prelude.{ℕ, ◌+◌, ◌-◌, ◌≤◌, ◌<◌, min, ◌≡◌, refl, List, [], ◌∷◌, ◌++◌, Bool, true, false, cond, ltb, eqb, set}
+use Rattle.std.specs.Prelude.{ℕ, ◌+◌, ◌-◌, ◌≤◌, ◌<◌, min, ◌≡◌, refl, List, ◌∷◌, ◌++◌, Bool, true, false, ltb, set}
 use Rattle.std.proofs.Math.Path.{sym, ap, ap₂}
-use Rattle.std.proofs.Common.{◌∙◌, subst, add-one, length-set, take-append-drop, length-take, drop_of_length-le, drop-cons, drop-drop, take_all, take-suc-set, drop-set-lt, length-take-le}
+use Rattle.std.proofs.Common.{◌∙◌, add-one, length-set, take-append-drop, drop_of_length-le, drop-cons, drop-drop, take_all, take-suc-set, drop-set-lt, length-take-le}
 use native.Mathlib.Omega.{arith}
 use borrow.Author.Tests.{eq-eqb, ne_eqb, lt-ltb, le-ltb, ltb-true, ltb-false}
 use Rattle.std.proofs.Math.ListN.{length, get_or, take, drop, get_or-eq_default}

@@ -1,4 +1,6 @@
 // Words of text in lent buffers: where they stand, the numbers and bytes that they say, and numbers and bytes written. Total for any place of any slice.
+#![tactic(auto)]
+
 pub use text_decimal::Number;
 pub use text_decimal_reader::number_said;
 pub use text_decimal_writer::put_number;

@@ -1,4 +1,6 @@
 // count: the unit's call that tells how many session records a door holds, for any door number and any content of the unit.
+#![tactic(auto)]
+
 ghost use Rattle.std.specs.Prelude.{◌≡◌, []};
 ghost use Rattle.door.specs.Calls.{count};
 ghost use Rattle.unit.specs.Run.{on, step};

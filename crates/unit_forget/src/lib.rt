@@ -1,4 +1,6 @@
 // forget: the unit's call that removes a session record from a door, for any door number, any bytes and any content of the unit.
+#![tactic(auto)]
+
 ghost use Rattle.std.specs.Prelude.{◌≡◌, []};
 ghost use Rattle.door.specs.Calls.{forget};
 ghost use Rattle.unit.specs.Run.{on, step};

@@ -1,4 +1,6 @@
 // store: the unit's call that adds a session record to a door, for any door number, any bytes and any content of the unit.
+#![tactic(auto)]
+
 ghost use Rattle.std.specs.Prelude.{◌≡◌, []};
 ghost use Rattle.door.specs.Calls.{store};
 ghost use Rattle.unit.specs.Run.{on, step};

@@ -1,0 +1,47 @@
+-- `key_terms::resumption_terms` meets its contract.
+use mathlib.Core.Path.{refl, sym}
+use lib.Seq.{length-take-le}
+use native.Mathlib.Omega.{arith}
+use borrow.Author.Tests.{not-true, not-false}
+use Rattle.eno.proofs.Laws.Tests.{known_range}
+use Rattle.key_terms.proofs.Cutting.{known_told, unfit_role, unfit_tep, unfit_identifier, no_second_byte, cut_short, at_a, at_b}
+use Rattle.key_terms.proofs.resumption_terms.Goals as goal
+
+pub returns-then-role-gt1 : goal.returns-then-role-gt1
+returns-then-role-gt1 c = unfit_role _ _ _ _ (omega arith) _ c.without.ensures
+
+pub returns-then-not-known : goal.returns-then-not-known
+returns-then-not-known c = unfit_tep _ _ _ _ (omega arith) (known_told _ _ _ c.of-known.ensures (not-true _ c.if-not-known.true)) _ c.without-then-not-known.ensures
+
+pub returns-then-identifier-ne18 : goal.returns-then-identifier-ne18
+returns-then-identifier-ne18 c = unfit_identifier _ _ _ _ (omega arith) (known_told _ _ _ c.of-known.ensures (not-false _ c.if-not-known.false)) (λ e. omega arith) _ c.without-then-identifier-ne18.ensures
+
+pub returns-then-transcript-lt2 : goal.returns-then-transcript-lt2
+returns-then-transcript-lt2 c = no_second_byte _ _ _ _ (omega arith) (known_told _ _ _ c.of-known.ensures (not-false _ c.if-not-known.false)) (omega arith) (omega arith) _ c.without-then-transcript-lt2.ensures
+
+pub returns-then-transcript-n : goal.returns-then-transcript-n
+returns-then-transcript-n c = cut_short _ _ _ _ (omega arith) (known_told _ _ _ c.of-known.ensures (not-false _ c.if-not-known.false)) (omega arith) (omega arith) _ c.wide-n.ensures (omega arith) _ c.without-then-transcript-n.ensures
+
+pub slice_bounds-terms_by-end : goal.slice_bounds-terms_by-end
+slice_bounds-terms_by-end c = sym (length-take-le _ _ (omega arith))
+
+pub slice_bounds-terms_by-end-else-role-eq0-2 : goal.slice_bounds-terms_by-end-else-role-eq0-2
+slice_bounds-terms_by-end-else-role-eq0-2 c = sym (length-take-le _ _ (omega arith))
+
+pub returns-then-role-eq0 : goal.returns-then-role-eq0
+returns-then-role-eq0 c = at_a _ _ _ _ (omega arith) (known_told _ _ _ c.of-known.ensures (not-false _ c.if-not-known.false)) (omega arith) _ c.wide-n.ensures _ _ refl refl (omega arith) _ c.terms_by.ensures
+
+pub returns-else-role-eq0 : goal.returns-else-role-eq0
+returns-else-role-eq0 c = at_b _ _ _ _ (omega arith) (known_told _ _ _ c.of-known.ensures (not-false _ c.if-not-known.false)) (omega arith) _ c.wide-n.ensures _ _ refl refl (λ e. omega arith) _ c.terms_by-else-role-eq0.ensures
+
+pub terms_by-requires-clause-fact_1 : goal.terms_by-requires-clause-fact_1
+terms_by-requires-clause-fact_1 c = (known_range _ (known_told _ _ _ c.of-known.ensures (not-false _ c.if-not-known.false))).0
+
+pub terms_by-requires-clause-fact_2 : goal.terms_by-requires-clause-fact_2
+terms_by-requires-clause-fact_2 c = (known_range _ (known_told _ _ _ c.of-known.ensures (not-false _ c.if-not-known.false))).1
+
+pub terms_by-requires-else-role-eq0-clause-fact_1 : goal.terms_by-requires-else-role-eq0-clause-fact_1
+terms_by-requires-else-role-eq0-clause-fact_1 c = (known_range _ (known_told _ _ _ c.of-known.ensures (not-false _ c.if-not-known.false))).0
+
+pub terms_by-requires-else-role-eq0-clause-fact_2 : goal.terms_by-requires-else-role-eq0-clause-fact_2
+terms_by-requires-else-role-eq0-clause-fact_2 c = (known_range _ (known_told _ _ _ c.of-known.ensures (not-false _ c.if-not-known.false))).1

@@ -1,0 +1,24 @@
+-- `unit_store::store` meets its contract.
+use Rattle.pool.proofs.PlacedLaws.{doors_same, enacts_kept}
+use native.Mathlib.Omega.{arith}
+use Rattle.door.specs.Calls.{store, outcome}
+use Rattle.door.specs.Numbered.{lent_of}
+use Rattle.unit.specs.Numbers.{doors_n, rows_n}
+use Rattle.unit_bytes.specs.Content.{unit_in}
+use Rattle.unit_step.specs.Stepping.{step_past}
+use Rattle.unit_step.specs.InPlace.{step_enacted}
+use Rattle.unit_store.proofs.store.Goals as goal
+
+pub returns-then-door-ge-DOORS : goal.returns-then-door-ge-DOORS
+unfolding doors_n lent_of
+returns-then-door-ge-DOORS c =
+    let a = c.args in
+    (step_past (unit_in a.marks.now a.rows.now a.doors.now) a.door (store a.tep a.role a.identifier.now a.secret.now) (omega arith), doors_same a.door a.doors.now)
+
+pub returns : goal.returns
+unfolding doors_n rows_n outcome
+returns c =
+    let a = c.args in
+    let free = c.lowest_unmarked-row in
+    let told = c.store-told.ensures in
+    (step_enacted a.marks.now a.rows.now a.doors.now a.door (omega arith) _ c.position_at-position.ensures (store a.tep a.role a.identifier.now a.secret.now) _ _ _ _ _ _ _ _ _ _ c.view_of-view.ensures.1 free.ensures.0 free.ensures.1 told.outcome c.enacted.ensures, enacts_kept _ _ _ _ _ _ _ _ _ _ _ _ c.enacted.ensures)
