@@ -1,4 +1,6 @@
 // HKDF over HMAC-SHA-256 (RFC 5869): extract, from one input or from four parts, and expand. Which way is taken and which index is read depends on lengths alone, never on the bytes.
+#![tactic(auto)]
+
 ghost use Rattle.std.specs.Prelude.{◌≡◌, ◌≤◌, ◌<◌, ◌+◌, ◌^◌, ◌++◌, length};
 ghost use Rattle.wire.specs.Bytes.{pasted};
 ghost use Rattle.hash_layout.specs.Hmac.{hmac};

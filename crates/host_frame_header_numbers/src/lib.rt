@@ -1,4 +1,6 @@
 // What reading a header gives, in plain numbers.
+#![tactic(auto)]
+
 ghost use Rattle.std.specs.Prelude.{◌≡◌};
 ghost use Rattle.frame_layout.specs.Answers.{header_told};
 ghost use Rattle.host_reply.specs.Numbers.{of_kind};

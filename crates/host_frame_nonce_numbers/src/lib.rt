@@ -1,4 +1,6 @@
 // A frame's nonce, in plain numbers.
+#![tactic(auto)]
+
 ghost use Rattle.std.specs.Prelude.{◌≡◌};
 ghost use Rattle.frame_layout.specs.Answers.{nonce_told};
 ghost use Rattle.host_frame_numbers.specs.Replies.{nonce_numbers};

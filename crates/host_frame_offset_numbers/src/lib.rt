@@ -1,4 +1,6 @@
 // What the calls that give an offset answer, in plain numbers.
+#![tactic(auto)]
+
 ghost use Rattle.std.specs.Prelude.{◌≡◌};
 ghost use Rattle.frame_layout.specs.Answers.{next_reply, written_reply};
 ghost use Rattle.host_frame_numbers.specs.Replies.{frame_numbers};

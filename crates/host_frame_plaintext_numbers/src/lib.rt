@@ -1,4 +1,6 @@
 // What the calls on plaintexts give, in plain numbers.
+#![tactic(auto)]
+
 ghost use Rattle.std.specs.Prelude.{◌≡◌};
 ghost use Rattle.frame_layout.specs.Answers.{plaintext_written_reply, plaintext_told};
 ghost use Rattle.host_frame_numbers.specs.Replies.{frame_numbers, plaintext_numbers};

@@ -1,4 +1,6 @@
 // A step of a generation record in plain numbers.
+#![tactic(auto)]
+
 ghost use Rattle.std.specs.Prelude.{◌≡◌};
 ghost use Rattle.generation.specs.Answers.{step_of};
 ghost use Rattle.host_generation_numbers.specs.Replies.{generation_numbers, refused_step};

@@ -1,4 +1,6 @@
 // What the calls on Init messages give, in plain numbers.
+#![tactic(auto)]
+
 ghost use Rattle.std.specs.Prelude.{◌≡◌};
 ghost use Rattle.init_layout.specs.Answers.{writing_of, reading_of};
 ghost use Rattle.host_init_numbers.specs.Replies.{writing_numbers, refused_init, init_numbers};

@@ -1,4 +1,6 @@
 // A judgement in plain numbers.
+#![tactic(auto)]
+
 ghost use Rattle.std.specs.Prelude.{◌≡◌, []};
 ghost use Rattle.judgement.specs.Answers.{judged_of};
 ghost use Rattle.host_judge_numbers.specs.Replies.{judged_numbers};

@@ -1,4 +1,6 @@
 // What the calls on pieces give back, in plain numbers.
+#![tactic(auto)]
+
 ghost use Rattle.std.specs.Prelude.{◌≡◌, []};
 ghost use Rattle.pieces_layout.specs.Answers.{told_of, start_number};
 ghost use Rattle.host_pieces_numbers.specs.Replies.{bare_numbers, nonce_place, fed_numbers, start_numbers};

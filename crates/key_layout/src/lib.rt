@@ -1,4 +1,6 @@
 // The key schedule of tcpcrypt: its ciphers, and what the calls on it answer. The definitions and theorems are in specs/; the crates above have the calls.
+#![tactic(auto)]
+
 ghost use Rattle.std.specs.Prelude.{◌≡◌};
 ghost use Rattle.key_layout.specs.Cipher.{cipher_of};
 

@@ -1,4 +1,6 @@
 // The quick judge and the plain one, side by side: they say the same of every two option areas.
+#![tactic(auto)]
+
 ghost use Rattle.std.specs.Prelude.{◌≡◌};
 ghost use Rattle.eno.specs.Session.{in_hand};
 ghost use Rattle.eno.specs.Judge.{judge};

@@ -1,0 +1,3 @@
+-- Lemmas and theorems.
+pub mod StepRows
+pub mod Untouched
