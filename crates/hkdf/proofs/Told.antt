@@ -1,26 +1,23 @@
 -- What extract and expand give back. Assumes nothing.
 use Prim.Native.Nat.{ℕ, ◌+◌, ◌-◌, ◌^◌, ◌≤◌, ◌<◌}
-use mathlib.Core.Path.{◌≡◌, refl, sym, ◌∙◌, ap, ap₂}
-use mathlib.Core.List.{List, [], ◌∷◌, ◌++◌}
+use mathlib.Core.Path.{◌≡◌, refl, sym, ◌∙◌, ap₂}
+use mathlib.Core.List.{List, []}
 use mathlib.Core.Bool.{Bool, true, false, ◌&&◌, ◌||◌, true≢false}
 use native.Mathlib.Omega.{arith}
 use borrow.Author.Tests.{lt-ltb, le-ltb, eq-eqb, ne_eqb, ltb-false}
-use lib.Dec.{ltb, eqb}
+use lib.Dec.{ltb}
 use lib.ListN.{length}
 use Rattle.wire.specs.Bytes.{pasted}
 use Rattle.refusals.specs.Rows.{refusal}
-use Rattle.hash_layout.specs.declared.HashSays.{HashSays}
 use Rattle.hash_layout.specs.declared.HashSays.TheVariants as h
 use Rattle.hash_layout.specs.declared.Hashed.{Hashed}
 use Rattle.hash_layout.specs.Hkdf.{hkdf_extract, hkdf_expand}
 use Rattle.hash_layout.proofs.Lengths.{length_expand}
-use Rattle.hash_layout.specs.Outcome.{Outcome, Reply, refused, written, unless}
+use Rattle.hash_layout.specs.Outcome.{Outcome, Reply, unless}
 use Rattle.hash_layout.specs.Calls.{mac, extract, expand, longest, too_long, most_expanded, expand_too_long, expanded, outcome}
 use Rattle.hash_layout.specs.Answers.{hash_reply, hash_told}
-use Rattle.hkdf_interface.specs.declared.ExtractSays.{ExtractSays}
 use Rattle.hkdf_interface.specs.declared.ExtractSays.TheVariants as k
 use Rattle.hkdf_interface.specs.declared.Extracted.{Extracted}
-use Rattle.hkdf_interface.specs.declared.ExpandSays.{ExpandSays}
 use Rattle.hkdf_interface.specs.declared.ExpandSays.TheVariants as w
 use Rattle.hkdf_interface.specs.Answers.{extract_told, expand_told}
 use Rattle.hkdf.specs.Expanding.{Fits}

@@ -1,4 +1,6 @@
 // The finder's word, exported.
+#![tactic(auto)]
+
 ghost use Rattle.std.specs.Prelude.{◌≡◌};
 ghost use Rattle.eno.specs.Area.{finding, status};
 ghost use Rattle.host_find.specs.Replies.{status_numbers};

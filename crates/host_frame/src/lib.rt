@@ -1,4 +1,6 @@
 // Frames: offsets and headers.
+#![tactic(auto)]
+
 ghost use Rattle.std.specs.Prelude.{◌≡◌};
 ghost use Rattle.frame_layout.specs.Calls.{Ask, outcome};
 ghost use Rattle.host_frame_numbers.specs.Replies.{frame_numbers, header_numbers, GivesFrame};

@@ -1,4 +1,6 @@
 // Frames: frame IDs and nonces.
+#![tactic(auto)]
+
 ghost use Rattle.std.specs.Prelude.{◌≡◌};
 ghost use Rattle.wire.specs.Frame.{frame_id};
 ghost use Rattle.frame_layout.specs.Calls.{Ask, outcome};

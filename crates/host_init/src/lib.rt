@@ -1,4 +1,6 @@
 // Init messages: written and read.
+#![tactic(auto)]
+
 ghost use Rattle.std.specs.Prelude.{◌≡◌};
 ghost use Rattle.init_layout.specs.Writing.{write_init1, write_init2};
 ghost use Rattle.init_layout.specs.Reading.{read_init1, read_init2};

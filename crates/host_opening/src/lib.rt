@@ -1,4 +1,6 @@
 // offer and answer, exported: over arrays that the host lends, with any door number, any bytes and any content of the unit.
+#![tactic(auto)]
+
 ghost use Rattle.door.specs.Calls.{offer, answer};
 ghost use Rattle.unit.specs.Run.{on, step};
 ghost use Rattle.unit_bytes.specs.Content.{unit_in};

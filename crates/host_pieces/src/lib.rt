@@ -1,4 +1,6 @@
 // Messages in pieces: a reader is started and fed. The host lends its memory to each call.
+#![tactic(auto)]
+
 ghost use Rattle.std.specs.Prelude.{◌≡◌, []};
 ghost use Rattle.pieces_layout.specs.Reader.{reader_of};
 ghost use Rattle.pieces_layout.specs.Step.{fed};

@@ -1,4 +1,6 @@
 // store, forget and count, exported: over arrays that the host lends, with any door number, any bytes and any content of the unit.
+#![tactic(auto)]
+
 ghost use Rattle.std.specs.Prelude.{[]};
 ghost use Rattle.door.specs.Calls.{store, forget, count};
 ghost use Rattle.unit.specs.Run.{on, step};

@@ -1,4 +1,6 @@
 // resend and result, exported: over arrays that the host lends, with any door number, any bytes and any content of the unit.
+#![tactic(auto)]
+
 ghost use Rattle.door.specs.Calls.{resend, result as ask_result};
 ghost use Rattle.unit.specs.Run.{on, step};
 ghost use Rattle.unit_bytes.specs.Content.{unit_in};

@@ -1,4 +1,6 @@
 // The unit as a whole, exported: the number of this interface, the unit's size, and erase, over arrays that the host lends.
+#![tactic(auto)]
+
 ghost use Rattle.std.specs.Prelude.{◌+◌, ◌*◌, ◌≡◌, []};
 ghost use Rattle.unit.specs.Numbers.{doors_n, rows_n, words_n};
 ghost use Rattle.unit.specs.Run.{step};

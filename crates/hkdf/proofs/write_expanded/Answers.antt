@@ -1,8 +1,8 @@
 -- `hkdf::write_expanded` meets its contract.
-use Prim.Native.Nat.{◌-◌}
-use mathlib.Core.Path.{refl, sym}
+use mathlib.Core.Path.{◌≡◌, refl, sym}
 use native.Mathlib.Omega.{arith}
 use borrow.Author.Rules.{rules}
+use lib.ListN.{length}
 use lib.Seq.{length-take-le}
 use Rattle.hkdf.proofs.Blocks.{least_is, out_start, out_long, out_fits, out_next, out_done}
 use Rattle.hkdf.proofs.write_expanded.Goals as goal
@@ -53,3 +53,24 @@ returns c =
     let a = c.args in
     let l = c.loop-at in
     out_done a.prk.now a.info.now a.out.now l.out l.t a.size l.n l.at l.invariant (omega arith)
+
+pub loop-at-preserved : goal.loop-at-preserved
+loop-at-preserved c =
+    let a = c.args in
+    let l = c.loop-at in
+    let q = least_is _ _ c.least-m.ensures in
+    let b : length c.next_block-d.result ≡ 32 = search rules in
+    out_next a.prk.now a.info.now a.out.now l.out l.t c.next_block-d.result c.copy.new.s _ a.size l.n l.at c.least-m.result l.invariant (omega arith) c.requires.room
+    c.next_block-d.ensures refl b q c.copy.ensures
+
+pub slice_bounds-t-end-in-loop-at : goal.slice_bounds-t-end-in-loop-at
+slice_bounds-t-end-in-loop-at c =
+    let q = least_is _ _ c.least-m.ensures in
+    let b : length c.next_block-d.result ≡ 32 = search rules in
+    omega (arith, q.small)
+
+pub slice_bounds-copy-end : goal.slice_bounds-copy-end
+slice_bounds-copy-end c =
+    let q = least_is _ _ c.least-m.ensures in
+    let b : length c.next_block-d.result ≡ 32 = search rules in
+    sym (length-take-le c.least-m.result c.next_block-d.result (omega (arith, q.small)))

@@ -1,0 +1,7 @@
+-- `init_calls::door_link_init1_read` meets its contract.
+use Rattle.host_init_numbers.specs.Replies.{init_numbers}
+use Rattle.host_reply.specs.Telling.{wrapped}
+use Rattle.host_init.proofs.door_link_init1_read.Goals as goal
+
+pub returns : goal.returns
+returns c = wrapped init_numbers c.init_numbers.ensures c.init1_read-told.ensures
