@@ -1,4 +1,6 @@
 // Generations: the steps of a connection's record, by value.
+#![tactic(auto)]
+
 ghost use Rattle.std.specs.Prelude.{◌≡◌};
 ghost use Rattle.generation.specs.Steps.{Ask, first, owed, outcome};
 ghost use Rattle.host_generation_numbers.specs.Replies.{generation_numbers};

@@ -1,4 +1,6 @@
 // The two judges: what two option areas come to.
+#![tactic(auto)]
+
 ghost use Rattle.std.specs.Prelude.{◌≡◌};
 ghost use Rattle.eno.specs.Session.{in_hand};
 ghost use Rattle.eno.specs.Judge.{judge};
