@@ -1,8 +1,11 @@
 // Unreadable areas on the unit: the place and the kind of the option that makes an area so.
 use crate::run;
+use std::io;
+use std::io::Stdout;
 
-pub fn table() {
+pub fn table(to: Stdout) -> io::Result<()> {
     run::unit_table(
+        to,
         b"\
 an unreadable area is answered: the option that makes it so is behind whole ones
   answer area 01 01 02 04 05 b4 08 TEPs 23 -> plain 1 place 6 kind 08
@@ -27,5 +30,5 @@ an unreadable ACK in Answered, at the largest place
   ACK area 01 01 01 01 01 01 01 01 01 01 01 01 01 01 01 01 01 01 01 01 01 01 01 01 01 01 01 01 01 01 01 01 01 01 01 01 01 01 01 45 -> plain 1 place 39 kind 45
   result -> plain 1 place 39 kind 45
 ",
-    );
+    )
 }

@@ -1,8 +1,11 @@
 // The bench table's rows that run on the unit, and K2 through the calls; K1 is RFC 8547's figure 9. R is TEP 23, role A, identifier 00 .. 11.
 use crate::run;
+use std::io;
+use std::io::Stdout;
 
-fn k2() {
+fn k2(to: Stdout) -> io::Result<()> {
     run::unit_table(
+        to,
         b"\
 K2, host A
   offer role 0 TEPs 21 23 24 -> wrote 5: 45 05 21 23 24
@@ -15,12 +18,13 @@ K2, host B
   SYN+ACK area 45 05 21 23 24 -> Open
   result -> role 1 TEP 21 fresh transcript 10: 45 05 21 23 24 45 05 01 23 21
 ",
-    );
+    )
 }
 
 // RFC 8547, 4.2: bit a of the global suboption. An end that makes it mandatory takes no other end without it.
-fn application_aware() {
+fn application_aware(to: Stdout) -> io::Result<()> {
     run::unit_table(
+        to,
         b"\
 application-aware, mandatory at both ends, host A
   offer role 0 mandatory-aware TEPs 21 23 -> wrote 5: 45 05 02 21 23
@@ -39,11 +43,12 @@ application-aware, mandatory at neither end
   SYN+ACK area 45 04 01 23 -> Open
   result -> role 0 TEP 23 fresh transcript 9: 45 05 02 21 23 45 04 01 23
 ",
-    );
+    )
 }
 
-fn r_offered() {
+fn r_offered(to: Stdout) -> io::Result<()> {
     run::unit_table(
+        to,
         b"\
 R held, offer 21 23 resuming, answer 45 0d 01 a3 09 .. 11: resumed
   store TEP 23 role 0 identifier 00 .. 11 -> done
@@ -67,11 +72,12 @@ R held, offer 21 23 resuming, answer 45 04 01 23: fresh, R gone
   forget TEP 23 identifier 00 .. 11 -> refused 16
   store TEP 23 role 0 identifier 00 .. 11 -> done
 ",
-    );
+    )
 }
 
-fn data_from_b() {
+fn data_from_b(to: Stdout) -> io::Result<()> {
     run::unit_table(
+        to,
         b"\
 resumption data of 8 bytes from host B: fresh
   store TEP 23 role 0 identifier 00 .. 11 -> done
@@ -100,11 +106,12 @@ resumption data of 18 bytes from host B: bad
   forget TEP 23 identifier 00 .. 11 -> refused 16
   store TEP 23 role 0 identifier 00 .. 11 -> done
 ",
-    );
+    )
 }
 
-fn data_from_a() {
+fn data_from_a(to: Stdout) -> io::Result<()> {
     run::unit_table(
+        to,
         b"\
 resumption data of 8 bytes from host A: fresh
   store TEP 23 role 0 identifier 00 .. 11 -> done
@@ -130,11 +137,12 @@ resumption data of 18 bytes from host A: bad
   result -> plain 6
   count -> holds 1
 ",
-    );
+    )
 }
 
-fn doors_and_records() {
+fn doors_and_records(to: Stdout) -> io::Result<()> {
     run::unit_table(
+        to,
         b"\
 doors 47, 48: taken, 1
   door 47 store TEP 23 role 0 identifier 00 .. 11 -> done
@@ -151,14 +159,14 @@ fifth record: 6
   store TEP 23 role 0 identifier 01 01 .. 11 -> refused 6
   count -> holds 4
 ",
-    );
+    )
 }
 
-pub fn table() {
-    k2();
-    application_aware();
-    r_offered();
-    data_from_b();
-    data_from_a();
-    doors_and_records();
+pub fn table(to: Stdout) -> io::Result<()> {
+    k2(to)?;
+    application_aware(to)?;
+    r_offered(to)?;
+    data_from_b(to)?;
+    data_from_a(to)?;
+    doors_and_records(to)
 }

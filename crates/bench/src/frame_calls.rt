@@ -2,6 +2,8 @@
 use crate::said::Answer;
 use crate::{read, said, say, word};
 use frame::{HeaderSays, HeaderWritten, NextOffset, NonceSays};
+use std::io;
+use std::io::Stdout;
 
 // The offset and the ciphertext length of a line.
 fn offset(line: &[u8]) -> u64 {
@@ -19,9 +21,9 @@ fn next_answer(came: NextOffset) -> Answer {
     }
 }
 
-pub fn next_offset(line: &[u8]) {
+pub fn next_offset(to: Stdout, line: &[u8]) -> io::Result<()> {
     let came = frame::next_offset(offset(line), clen(line));
-    say::compared(line, next_answer(came), true);
+    say::compared(to, line, next_answer(came), true)
 }
 
 fn written_answer(came: HeaderWritten) -> Answer {
@@ -38,10 +40,10 @@ fn write_header(line: &[u8], lent: &mut [u8]) -> HeaderWritten {
     frame::write_header(rekey, clen(line), offset(line), &mut lent[0..room])
 }
 
-pub fn header_written(line: &[u8]) {
+pub fn header_written(to: Stdout, line: &[u8]) -> io::Result<()> {
     let mut lent = [say::FILL; say::LENT];
     let came = write_header(line, &mut lent);
-    say::check(line, written_answer(came), &lent, say::FILL);
+    say::check(to, line, written_answer(came), &lent, say::FILL)
 }
 
 fn header_answer(says: HeaderSays) -> Answer {
@@ -59,13 +61,13 @@ fn header_answer(says: HeaderSays) -> Answer {
 }
 
 // The associated data stand behind the colon.
-pub fn header_read(line: &[u8]) {
+pub fn header_read(to: Stdout, line: &[u8]) -> io::Result<()> {
     let mut bytes = [0u8; 8];
     let k = read::list(line, word::BYTES, &mut bytes);
     let r = frame::read_header(text_words::first(&bytes, k), offset(line));
     let says = r.says;
     let associated = r.associated;
-    say::told(line, header_answer(says), &associated);
+    say::told(to, line, header_answer(says), &associated)
 }
 
 fn nonce_answer(says: NonceSays) -> Answer {
@@ -75,16 +77,16 @@ fn nonce_answer(says: NonceSays) -> Answer {
     }
 }
 
-pub fn nonce(line: &[u8]) {
+pub fn nonce(to: Stdout, line: &[u8]) -> io::Result<()> {
     let mut fixed = [0u8; 16];
     let k = read::list(line, word::FIXED, &mut fixed);
     let r = frame::nonce(text_words::first(&fixed, k), offset(line));
     let says = r.says;
     let nonce = r.nonce;
-    say::told(line, nonce_answer(says), &nonce);
+    say::told(to, line, nonce_answer(says), &nonce)
 }
 
-pub fn frame_id(line: &[u8]) {
+pub fn frame_id(to: Stdout, line: &[u8]) -> io::Result<()> {
     let id = frame::frame_id(offset(line));
-    say::told(line, said::plain(said::MADE), &id);
+    say::told(to, line, said::plain(said::MADE), &id)
 }

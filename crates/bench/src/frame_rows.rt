@@ -1,8 +1,11 @@
 // The rows on frames: nonces, offsets, headers and plaintexts.
 use crate::run;
+use std::io;
+use std::io::Stdout;
 
-fn k12_and_offsets() {
+fn k12_and_offsets(to: Stdout) -> io::Result<()> {
     run::table(
+        to,
         b"\
 K12: offset 75, fixed nonce all ff
   frame ID offset 75 -> made: 44 41 54 41 00 00 00 00 00 00 00 4b
@@ -16,11 +19,12 @@ frame at 75, length 17: next at 95
   read header bytes 01 00 11 ff offset 75 -> rekey 1 length 17 next 95: 01 00 11
   read header bytes fe 00 11 offset 75 -> rekey 0 length 17 next 95: fe 00 11
 ",
-    );
+    )
 }
 
-fn ends_of_ranges() {
+fn ends_of_ranges(to: Stdout) -> io::Result<()> {
     run::table(
+        to,
         b"\
 the frame ends at 2^64 - 1, and one further on: 11
   next offset 18446744073709551595 length 17 -> next 18446744073709551615
@@ -44,11 +48,12 @@ lengths 16, 65,535 and 65,536; 5 before 11
   read header bytes 00 00 10 offset 75 -> refused 11
   read header bytes 00 ff ff offset 75 -> rekey 0 length 65535 next 65613: 00 ff ff
 ",
-    );
+    )
 }
 
-fn plaintexts() {
+fn plaintexts(to: Stdout) -> io::Result<()> {
     run::table(
+        to,
         b"\
 plaintext of 65,518 bytes
   write plaintext fin 0 urg 0 urgent 7 data 65517 into 70016 -> wrote 65518 fin 0 urg 0 urgent 0 from 1: 00
@@ -85,11 +90,11 @@ plaintexts as they are read
   read plaintext bytes fe 00 05 -> fin 0 urg 1 urgent 5 from 3
   read plaintext bytes fd -> fin 1 urg 0 urgent 0 from 1
 ",
-    );
+    )
 }
 
-pub fn table() {
-    k12_and_offsets();
-    ends_of_ranges();
-    plaintexts();
+pub fn table(to: Stdout) -> io::Result<()> {
+    k12_and_offsets(to)?;
+    ends_of_ranges(to)?;
+    plaintexts(to)
 }

@@ -2,6 +2,8 @@
 use crate::said::Answer;
 use crate::{read, said, say, word};
 use generation::{GenerationRecord, GenerationReply, GenerationStep};
+use std::io;
+use std::io::Stdout;
 
 fn reply_answer(reply: GenerationReply) -> Answer {
     match reply {
@@ -53,13 +55,13 @@ pub fn lent(line: &[u8]) -> GenerationRecord {
     }
 }
 
-pub fn made(g: GenerationRecord, line: &[u8]) -> GenerationRecord {
+pub fn made(to: Stdout, g: GenerationRecord, line: &[u8]) -> io::Result<GenerationRecord> {
     let r = step(g, read::given(line));
     let after = r.next;
     let reply = r.reply;
     let mut words = [0u8; 80];
     let n = say::put_answer(&mut words, 0, reply_answer(reply));
     let n = say::put_answer(&mut words, n, record_answer(after));
-    say::words_compared(line, text_words::first(&words, n), true);
-    after
+    say::words_compared(to, line, text_words::first(&words, n), true)?;
+    Ok(after)
 }

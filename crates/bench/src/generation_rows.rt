@@ -1,8 +1,11 @@
 // Runs of generation records (RFC 8548, 3.8): each line has the answer and the record afterwards.
 use crate::run;
+use std::io;
+use std::io::Stdout;
 
-fn rekeying() {
+fn rekeying(to: Stdout) -> io::Result<()> {
     run::table(
+        to,
         b"\
 two rekeys received, then three sends
   receive rekey 1 -> received 1 local 1 remote 1 last 0 fin 0 owed 1
@@ -27,11 +30,12 @@ initiating while a rekey frame is owed: 4
   send fin 0 -> sent 1 rekey 1 local 1 remote 1 last 1 fin 0 owed 0
   initiate data 1 fin 0 -> sent 2 rekey 1 local 2 remote 1 last 2 fin 0 owed 0
 ",
-    );
+    )
 }
 
-fn ends() {
+fn ends(to: Stdout) -> io::Result<()> {
     run::table(
+        to,
         b"\
 sending after FINp: 14
   send fin 1 -> sent 0 rekey 0 local 0 remote 0 last 0 fin 1 owed 0
@@ -53,12 +57,13 @@ records that no connection reaches
   lend local 3 remote 0 last 10 fin 0
   initiate data 1 fin 0 -> sent 10 rekey 0 local 4 remote 0 last 10 fin 0 owed 0
 ",
-    );
+    )
 }
 
 // RFC 8548, 3.8: the answering rekey frame is sent only before FIN.
-fn after_fin() {
+fn after_fin(to: Stdout) -> io::Result<()> {
     run::table(
+        to,
         b"\
 after FINp local follows, nothing is owed and last-used is left
   lend local 2 remote 2 last 1 fin 1
@@ -89,11 +94,11 @@ before FINp, and where local is not above last-used, as ever
   lend local 3 remote 5 last 10 fin 1
   initiate data 0 fin 0 -> refused 14 local 3 remote 5 last 10 fin 1 owed 0
 ",
-    );
+    )
 }
 
-pub fn table() {
-    rekeying();
-    ends();
-    after_fin();
+pub fn table(to: Stdout) -> io::Result<()> {
+    rekeying(to)?;
+    ends(to)?;
+    after_fin(to)
 }

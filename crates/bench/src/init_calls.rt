@@ -2,6 +2,8 @@
 use crate::said::Answer;
 use crate::{read, said, say, word};
 use init::{Enabled, InitAnswer, InitRead, InitWritten};
+use std::io;
+use std::io::Stdout;
 
 // Reads the ciphers behind a word, two bytes each, of which there are at most eight. Gives how many.
 pub fn ciphers(line: &[u8], word: u32, out: &mut [u16]) -> usize {
@@ -64,10 +66,10 @@ fn write(line: &[u8], lent: &mut [u8]) -> InitWritten {
     write1(line, sent, public, part)
 }
 
-pub fn written(line: &[u8]) {
+pub fn written(to: Stdout, line: &[u8]) -> io::Result<()> {
     let mut lent = [say::FILL; say::LENT];
     let came = write(read::given(line), &mut lent);
-    say::check(line, written_answer(came), &lent, say::FILL);
+    say::check(to, line, written_answer(came), &lent, say::FILL)
 }
 
 fn read_answer(answer: InitAnswer) -> Answer {
@@ -112,7 +114,7 @@ fn read_message(line: &[u8]) -> InitRead {
 }
 
 // What is read: the nonce and the key, as its array has it, stand behind the colon.
-pub fn told(line: &[u8]) {
+pub fn told(to: Stdout, line: &[u8]) -> io::Result<()> {
     let r = read_message(read::given(line));
     let answer = r.answer;
     let nonce = r.nonce;
@@ -120,5 +122,5 @@ pub fn told(line: &[u8]) {
     let mut given = [0u8; 88];
     wire::copy(&mut given, 0, &nonce);
     wire::copy(&mut given, 32, &key);
-    say::told(line, read_answer(answer), &given);
+    say::told(to, line, read_answer(answer), &given)
 }

@@ -1,4 +1,6 @@
 // The bench table's rows that run, and the worked examples of the RFCs: a line of a table is a call, with what is given and, behind its arrow, what is expected.
+#![tactic(auto)]
+
 mod area_rows;
 mod bench_table;
 mod frame_calls;
@@ -19,12 +21,15 @@ mod say;
 mod unit_calls;
 mod word;
 
-fn main() {
-    rfc8547::table();
-    bench_table::table();
-    area_rows::table();
-    init_rows::table();
-    frame_rows::table();
-    generation_rows::table();
-    piece_rows::table();
+use std::io;
+
+fn main(rt: HostRuntime) -> io::Result<()> {
+    let to = rt.stdout();
+    rfc8547::table(to)?;
+    bench_table::table(to)?;
+    area_rows::table(to)?;
+    init_rows::table(to)?;
+    frame_rows::table(to)?;
+    generation_rows::table(to)?;
+    piece_rows::table(to)
 }

@@ -2,6 +2,8 @@
 use crate::said::Answer;
 use crate::{init_calls, read, said, say, word};
 use pieces_layout::{Fed, PieceSays, PieceStart};
+use std::io;
+use std::io::Stdout;
 
 fn start_answer(came: PieceStart) -> Answer {
     match came {
@@ -30,9 +32,14 @@ fn start(line: &[u8], numbers: &mut [u64], gathered: &mut [u8]) -> PieceStart {
     pieces::start_frames(numbers)
 }
 
-pub fn started(line: &[u8], numbers: &mut [u64], gathered: &mut [u8]) {
+pub fn started(
+    to: Stdout,
+    line: &[u8],
+    numbers: &mut [u64],
+    gathered: &mut [u8],
+) -> io::Result<()> {
     let came = start(read::given(line), numbers, gathered);
-    say::compared(line, start_answer(came), true);
+    say::compared(to, line, start_answer(came), true)
 }
 
 fn init_answer(form: usize, used: usize, cipher: u16, count: usize, length: usize) -> Answer {
@@ -135,12 +142,12 @@ fn feed(line: &[u8], numbers: &mut [u64], gathered: &mut [u8]) -> Fed {
     pieces::feed(numbers, gathered, text_words::first(&piece, n))
 }
 
-pub fn fed(line: &[u8], numbers: &mut [u64], gathered: &mut [u8]) {
+pub fn fed(to: Stdout, line: &[u8], numbers: &mut [u64], gathered: &mut [u8]) -> io::Result<()> {
     let came = feed(read::given(line), numbers, gathered);
     let says = came.says;
     let mut given = [0u8; 88];
     put_told(&mut given, says, gathered);
-    say::told(line, fed_answer(came), &given);
+    say::told(to, line, fed_answer(came), &given)
 }
 
 fn set(numbers: &mut [u64], k: usize, value: u64) {

@@ -1,8 +1,11 @@
 // The rows on messages in pieces: streams whole and cut, each refusal at its byte and again, and numbers that a host makes up.
 use crate::piece_table;
+use std::io;
+use std::io::Stdout;
 
-fn whole() {
+fn whole(to: Stdout) -> io::Result<()> {
     piece_table::table(
+        to,
         b"\
 a resumed connection: frames from 0
   feed -> used 0 waiting
@@ -24,11 +27,12 @@ Init2 in one piece
   feed 09 71 05 e0 00 00 00 4a 00 01 40 .. 5f 80 .. 9f 00 -> used 74 init2 cipher 0001 length 74: 40 .. 5f 80 .. 9f
   feed 00 00 11 -> used 3 header rekey 0 length 17 next 94: 00 00 11
 ",
-    );
+    )
 }
 
-fn cut() {
+fn cut(to: Stdout) -> io::Result<()> {
     piece_table::table(
+        to,
         b"\
 Init1 cut inside each field, with empty pieces
   start Init1 TEP 23 0001 0010 -> started
@@ -63,11 +67,12 @@ Init2 byte by byte up to its nonce
   feed 40 .. 5f 80 .. 9e -> used 63 waiting
   feed 9f -> used 1 init2 cipher 0001 length 74: 40 .. 5f 80 .. 9f
 ",
-    );
+    )
 }
 
-fn eights() {
+fn eights(to: Stdout) -> io::Result<()> {
     piece_table::table(
+        to,
         b"\
 8 at the byte that settles it, and again: magic, length, count, a cipher 0000
   start Init1 TEP 23 0001 -> started
@@ -124,11 +129,12 @@ fn eights() {
   feed -> refused 8 at 9
   feed 15 00 00 11 -> refused 8 at 9
 ",
-    );
+    )
 }
 
-fn tens_and_elevens() {
+fn tens_and_elevens(to: Stdout) -> io::Result<()> {
     piece_table::table(
+        to,
         b"\
 10 at the message's last byte, an ignored one
   start Init1 TEP 23 0010 -> started
@@ -158,11 +164,12 @@ fn tens_and_elevens() {
   feed -> used 0 waiting
   feed 00 -> refused 11 at 18446744073709551615
 ",
-    );
+    )
 }
 
-fn odd_numbers() {
+fn odd_numbers(to: Stdout) -> io::Result<()> {
     piece_table::table(
+        to,
         b"\
 numbers that no stream makes
   lend position 5 first 0 second 0 stage 7
@@ -178,13 +185,13 @@ numbers that no stream makes
   lend position 9 first 8 second 5 stage 6
   feed 00 -> refused 8 at 9
 ",
-    );
+    )
 }
 
-pub fn table() {
-    whole();
-    cut();
-    eights();
-    tens_and_elevens();
-    odd_numbers();
+pub fn table(to: Stdout) -> io::Result<()> {
+    whole(to)?;
+    cut(to)?;
+    eights(to)?;
+    tens_and_elevens(to)?;
+    odd_numbers(to)
 }

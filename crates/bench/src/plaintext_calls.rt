@@ -2,6 +2,8 @@
 use crate::said::Answer;
 use crate::{read, said, say, word};
 use frame::{PlaintextRead, PlaintextWritten};
+use std::io;
+use std::io::Stdout;
 
 // How long the longest data and the longest lent buffer are.
 const LONG: usize = 70016;
@@ -12,7 +14,7 @@ fn count_up(s: &mut [u8]) {
     let mut x: u8 = 0;
     while i < s.len() {
         s[i] = x;
-        x = std::num::wrapping_add_u8(x, 1);
+        x = x.wrapping_add(1);
         i += 1;
     }
 }
@@ -82,25 +84,31 @@ fn write(line: &[u8], data: &[u8], lent: &mut [u8]) -> PlaintextWritten {
 }
 
 // Writes the plaintext of a line, whose data are the first bytes of a buffer, and holds it against what is expected.
-fn compare(line: &[u8], bytes: &mut [u8], lent: &mut [u8], expected: &mut [u8]) {
+fn compare(
+    to: Stdout,
+    line: &[u8],
+    bytes: &mut [u8],
+    lent: &mut [u8],
+    expected: &mut [u8],
+) -> io::Result<()> {
     count_up(bytes);
     let data = text_words::first(bytes, read::number(line, word::DATA) as usize);
     let came = write(line, data, lent);
     expect(line, data, expected);
     let alike = wire::same(lent, expected);
-    say::compared(line, written_answer(came, lent), alike);
+    say::compared(to, line, written_answer(came, lent), alike)
 }
 
-pub fn written(line: &[u8]) {
+pub fn written(to: Stdout, line: &[u8]) -> io::Result<()> {
     let mut bytes = [0u8; LONG];
     let mut lent = [say::FILL; LONG];
     let mut expected = [say::FILL; LONG];
-    compare(line, &mut bytes, &mut lent, &mut expected);
+    compare(to, line, &mut bytes, &mut lent, &mut expected)
 }
 
-pub fn told(line: &[u8]) {
+pub fn told(to: Stdout, line: &[u8]) -> io::Result<()> {
     let mut bytes = [0u8; 16];
     let k = read::list(line, word::BYTES, &mut bytes);
     let came = frame::read_plaintext(text_words::first(&bytes, k));
-    say::compared(line, read_answer(came), true);
+    say::compared(to, line, read_answer(came), true)
 }

@@ -1,8 +1,11 @@
 // The worked examples of RFC 8547, section 6, and what its other sections and RFC 8548, sections 3.2 and 3.5, say of an option; X is 21, Y 23, Z 24.
 use crate::run;
+use std::io;
+use std::io::Stdout;
 
-fn figures_9_and_10() {
+fn figures_9_and_10(to: Stdout) -> io::Result<()> {
     run::unit_table(
+        to,
         b"\
 K1, RFC 8547 Fig 9, host A
   offer role 0 TEPs 21 23 -> wrote 4: 45 04 21 23
@@ -26,11 +29,12 @@ RFC 8547 Fig 10, case 4, host B
   answer area 02 04 05 b4 TEPs 23 -> plain 2
   result -> plain 2
 ",
-    );
+    )
 }
 
-fn figures_11_and_12() {
+fn figures_11_and_12(to: Stdout) -> io::Result<()> {
     run::unit_table(
+        to,
         b"\
 RFC 8547 Fig 11, host B
   answer area 45 04 21 23 TEPs 21 -> wrote 4: 45 04 01 21
@@ -57,11 +61,12 @@ RFC 8547 Fig 12, A's SYN lost, host B
   SYN+ACK area 45 04 23 21 -> Open
   result -> role 1 TEP 23 fresh transcript 10: 45 04 23 21 45 06 01 21 23 24
 ",
-    );
+    )
 }
 
-fn roles_and_vacuous_options() {
+fn roles_and_vacuous_options(to: Stdout) -> io::Result<()> {
     run::unit_table(
+        to,
         b"\
 RFC 8547 8.1, the option echoed
   offer role 0 TEPs 23 -> wrote 3: 45 03 23
@@ -82,11 +87,12 @@ RFC 8547 4.6, a vacuous option with b = 0 to host A
   SYN+ACK area 45 02 -> plain 4
   result -> plain 4
 ",
-    );
+    )
 }
 
-fn forms() {
+fn forms(to: Stdout) -> io::Result<()> {
     run::unit_table(
+        to,
         b"\
 RFC 8547 4.1, two ENO options in a SYN
   offer role 0 TEPs 21 23 -> wrote 4: 45 04 21 23
@@ -113,11 +119,12 @@ RFC 8547 5.1, v in the TEP byte
   SYN+ACK area 45 04 01 a3 -> Open
   result -> role 0 TEP a3 fresh transcript 8: 45 04 21 23 45 04 01 a3
 ",
-    );
+    )
 }
 
-fn resumption() {
+fn resumption(to: Stdout) -> io::Result<()> {
     run::unit_table(
+        to,
         b"\
 RFC 8548 3.5, a half that does not match
   store TEP 23 role 0 identifier 00 .. 11 -> done
@@ -141,13 +148,13 @@ RFC 8548 3.5, host B of the session resumes it as host A
   SYN+ACK area 45 0d 01 a3 00 .. 08 -> Open
   result -> role 0 TEP a3 resumed transcript 25: 45 0c a3 09 .. 11 45 0d 01 a3 00 .. 08
 ",
-    );
+    )
 }
 
-pub fn table() {
-    figures_9_and_10();
-    figures_11_and_12();
-    roles_and_vacuous_options();
-    forms();
-    resumption();
+pub fn table(to: Stdout) -> io::Result<()> {
+    figures_9_and_10(to)?;
+    figures_11_and_12(to)?;
+    roles_and_vacuous_options(to)?;
+    forms(to)?;
+    resumption(to)
 }

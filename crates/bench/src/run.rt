@@ -4,6 +4,8 @@ use crate::{
 };
 use generation::GenerationRecord;
 use link_unit::{DOORS, PLACE, ROW, ROWS, WORDS};
+use std::io;
+use std::io::Stdout;
 
 pub fn is_call(line: &[u8]) -> bool {
     if line.len() == 0 {
@@ -12,27 +14,28 @@ pub fn is_call(line: &[u8]) -> bool {
     line[0] == b' '
 }
 
-pub fn name(line: &[u8]) {
-    say::text(line);
-    say::text(b"\n");
+pub fn name(to: Stdout, line: &[u8]) -> io::Result<()> {
+    say::text(to, line)?;
+    say::text(to, b"\n")
 }
 
 fn unit_line(
+    to: Stdout,
     marks: &mut [u32; WORDS],
     rows: &mut [[u8; ROW]; ROWS],
     doors: &mut [[u8; PLACE]; DOORS],
     line: &[u8],
-) {
+) -> io::Result<()> {
     if is_call(line) {
-        unit_calls::made(marks, rows, doors, line);
-        return;
+        return unit_calls::made(to, marks, rows, doors, line);
     }
-    name(line);
+    name(to, line)?;
     link_unit::erase(marks, rows, doors);
+    Ok(())
 }
 
 // A table of calls of the unit, whose memory stands here.
-pub fn unit_table(table: &[u8]) {
+pub fn unit_table(to: Stdout, table: &[u8]) -> io::Result<()> {
     let mut marks = [0u32; WORDS];
     let row = [0u8; ROW];
     let mut rows = [row; ROWS];
@@ -43,99 +46,96 @@ pub fn unit_table(table: &[u8]) {
     while at < table.len() {
         let end = text_words::place_of(table, at, b'\n');
         unit_line(
+            to,
             &mut marks,
             &mut rows,
             &mut doors,
             text_words::between(table, at, end),
-        );
+        )?;
         if table.len() <= end {
-            return;
+            return Ok(());
         }
         at = end + 1;
     }
+    Ok(())
 }
 
 // A line on Init messages.
-fn init_line(line: &[u8]) {
+fn init_line(to: Stdout, line: &[u8]) -> io::Result<()> {
     if read::has(line, word::WRITE) {
-        init_calls::written(line);
-        return;
+        return init_calls::written(to, line);
     }
-    init_calls::told(line);
+    init_calls::told(to, line)
 }
 
-fn plaintext_line(line: &[u8]) {
+fn plaintext_line(to: Stdout, line: &[u8]) -> io::Result<()> {
     if read::has(line, word::WRITE) {
-        plaintext_calls::written(line);
-        return;
+        return plaintext_calls::written(to, line);
     }
-    plaintext_calls::told(line);
+    plaintext_calls::told(to, line)
 }
 
-fn header_line(line: &[u8]) {
+fn header_line(to: Stdout, line: &[u8]) -> io::Result<()> {
     if read::has(line, word::WRITE) {
-        frame_calls::header_written(line);
-        return;
+        return frame_calls::header_written(to, line);
     }
-    frame_calls::header_read(line);
+    frame_calls::header_read(to, line)
 }
 
 // A line on headers, offsets, frame IDs and nonces.
-fn frame_line(line: &[u8]) {
+fn frame_line(to: Stdout, line: &[u8]) -> io::Result<()> {
     if read::has(line, word::HEADER) {
-        header_line(line);
-        return;
+        return header_line(to, line);
     }
     if read::has(line, word::NONCE) {
-        frame_calls::nonce(line);
-        return;
+        return frame_calls::nonce(to, line);
     }
     if read::has(line, word::FRAME) {
-        frame_calls::frame_id(line);
-        return;
+        return frame_calls::frame_id(to, line);
     }
-    frame_calls::next_offset(line);
+    frame_calls::next_offset(to, line)
 }
 
-fn generation_line(g: GenerationRecord, line: &[u8]) -> GenerationRecord {
+fn generation_line(to: Stdout, g: GenerationRecord, line: &[u8]) -> io::Result<GenerationRecord> {
     if read::has(line, word::LEND) {
-        name(line);
-        return generation_calls::lent(line);
+        name(to, line)?;
+        return Ok(generation_calls::lent(line));
     }
-    generation_calls::made(g, line)
+    generation_calls::made(to, g, line)
 }
 
-fn other_line(g: GenerationRecord, line: &[u8]) -> GenerationRecord {
+fn other_line(to: Stdout, g: GenerationRecord, line: &[u8]) -> io::Result<GenerationRecord> {
     if !is_call(line) {
-        name(line);
-        return generation_record::first_record();
+        name(to, line)?;
+        return Ok(generation_record::first_record());
     }
     if read::has(line, word::INIT) {
-        init_line(line);
-        return g;
+        init_line(to, line)?;
+        return Ok(g);
     }
     if read::has(line, word::PLAINTEXT) {
-        plaintext_line(line);
-        return g;
+        plaintext_line(to, line)?;
+        return Ok(g);
     }
     if read::has(line, word::OFFSET) {
-        frame_line(line);
-        return g;
+        frame_line(to, line)?;
+        return Ok(g);
     }
-    generation_line(g, line)
+    generation_line(to, g, line)
 }
 
 // A table of the other libraries' calls.
-pub fn table(table: &[u8]) {
+pub fn table(to: Stdout, table: &[u8]) -> io::Result<()> {
     let mut g = generation_record::first_record();
     let mut at = 0;
     while at < table.len() {
         let end = text_words::place_of(table, at, b'\n');
-        let after = other_line(g, text_words::between(table, at, end));
+        let after = other_line(to, g, text_words::between(table, at, end))?;
         g = after;
         if table.len() <= end {
-            return;
+            return Ok(());
         }
         at = end + 1;
     }
+    Ok(())
 }

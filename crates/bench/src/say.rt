@@ -1,7 +1,8 @@
 // Answers put in words, and a line of a table held against what came.
 use crate::read;
 use crate::said::Answer;
-use libc::STDOUT_FILENO;
+use std::io;
+use std::io::Stdout;
 
 // What fills a lent buffer before a call: what the call did not write must still be this.
 pub const FILL: u8 = 0xee;
@@ -12,8 +13,8 @@ pub const LENT: usize = 128;
 // How long the words of an answer may be.
 const WORDS: usize = 80;
 
-pub fn text(s: &[u8]) {
-    io::write_all(STDOUT_FILENO, s);
+pub fn text(to: Stdout, s: &[u8]) -> io::Result<()> {
+    to.write_all(s)
 }
 
 fn byte_of(n: u64) -> u8 {
@@ -82,15 +83,14 @@ pub fn put_answer(out: &mut [u8], at: usize, said: Answer) -> usize {
 }
 
 // The line, and whether it is as expected; else the words that came.
-fn verdict(line: &[u8], right: bool, words: &[u8]) {
-    text(line);
+fn verdict(to: Stdout, line: &[u8], right: bool, words: &[u8]) -> io::Result<()> {
+    text(to, line)?;
     if right {
-        text(b" ok\n");
-        return;
+        return text(to, b" ok\n");
     }
-    text(b" BUT CAME");
-    text(words);
-    text(b"\n");
+    text(to, b" BUT CAME")?;
+    text(to, words)?;
+    text(to, b"\n")
 }
 
 // What a line expects: what stands behind its arrow.
@@ -113,28 +113,27 @@ pub fn bytes_expected(line: &[u8], out: &mut [u8]) -> usize {
 }
 
 // Whether a line expects these words, and what else was compared came out alike.
-pub fn words_compared(line: &[u8], words: &[u8], alike: bool) {
+pub fn words_compared(to: Stdout, line: &[u8], words: &[u8], alike: bool) -> io::Result<()> {
     let all = expected(line);
     let said = text_words::first(all, text_words::place_of(all, 0, b':'));
     if wire::same(words, said) {
-        verdict(line, alike, words);
-        return;
+        return verdict(to, line, alike, words);
     }
-    verdict(line, false, words);
+    verdict(to, line, false, words)
 }
 
 // Whether a line expects this answer, and what else was compared came out alike.
-pub fn compared(line: &[u8], said: Answer, alike: bool) {
+pub fn compared(to: Stdout, line: &[u8], said: Answer, alike: bool) -> io::Result<()> {
     let mut words = [0u8; WORDS];
     let n = put_answer(&mut words, 0, said);
-    words_compared(line, text_words::first(&words, n), alike);
+    words_compared(to, line, text_words::first(&words, n), alike)
 }
 
-fn bytes(s: &[u8]) {
+fn bytes(to: Stdout, s: &[u8]) -> io::Result<()> {
     let mut digits = [0u8; 256];
     let n = text_words::put_hex(&mut digits, 0, s);
-    text(text_words::first(&digits, n));
-    text(b"\n");
+    text(to, text_words::first(&digits, n))?;
+    text(to, b"\n")
 }
 
 // Whether a buffer begins with the bytes that a line expects, and all else in it is as it was filled.
@@ -147,17 +146,18 @@ fn is_alike(line: &[u8], buffer: &[u8], fill: u8) -> bool {
 }
 
 // Holds a line against an answer and a buffer.
-pub fn check(line: &[u8], said: Answer, buffer: &[u8], fill: u8) {
+pub fn check(to: Stdout, line: &[u8], said: Answer, buffer: &[u8], fill: u8) -> io::Result<()> {
     let alike = is_alike(line, buffer, fill);
-    compared(line, said, alike);
+    compared(to, line, said, alike)?;
     if !alike {
-        bytes(buffer);
+        return bytes(to, buffer);
     }
+    Ok(())
 }
 
 // Holds a line against an answer and the bytes that are given with it.
-pub fn told(line: &[u8], said: Answer, given: &[u8]) {
+pub fn told(to: Stdout, line: &[u8], said: Answer, given: &[u8]) -> io::Result<()> {
     let mut buffer = [0u8; LENT];
     wire::copy(&mut buffer, 0, given);
-    check(line, said, &buffer, 0);
+    check(to, line, said, &buffer, 0)
 }

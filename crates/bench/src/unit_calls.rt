@@ -4,6 +4,8 @@ use crate::{read, said, say, word};
 use door::{Phase, Refusal, Reply};
 use eno::Cause;
 use link_unit::{DOORS, PLACE, ROW, ROWS, WORDS};
+use std::io;
+use std::io::Stdout;
 
 // The secret of every record of the bench.
 const SECRET: u8 = 0x5a;
@@ -177,25 +179,27 @@ fn secret_of(reply: Reply) -> u8 {
     0
 }
 
-fn secret_told(came: [u8; 32], expected: u8) {
+fn secret_told(to: Stdout, came: [u8; 32], expected: u8) -> io::Result<()> {
     let secret = [expected; 32];
     if !wire::same(&came, &secret) {
-        say::text(b"ANOTHER SECRET\n");
+        return say::text(to, b"ANOTHER SECRET\n");
     }
+    Ok(())
 }
 
 fn result(
+    to: Stdout,
     marks: &[u32; WORDS],
     rows: &[[u8; ROW]; ROWS],
     doors: &[[u8; PLACE]; DOORS],
     door: usize,
     lent: &mut [u8],
-) -> Reply {
+) -> io::Result<Reply> {
     let told = link_unit::result(marks, rows, doors, door, lent);
     let reply = told.reply;
     let secret = told.secret;
-    secret_told(secret, secret_of(reply));
-    reply
+    secret_told(to, secret, secret_of(reply))?;
+    Ok(reply)
 }
 
 fn store(
@@ -268,39 +272,41 @@ fn door_of(line: &[u8]) -> usize {
 
 // The call of a line: what stands before its arrow.
 fn call(
+    to: Stdout,
     marks: &mut [u32; WORDS],
     rows: &mut [[u8; ROW]; ROWS],
     doors: &mut [[u8; PLACE]; DOORS],
     line: &[u8],
     lent: &mut [u8],
-) -> Reply {
+) -> io::Result<Reply> {
     let door = door_of(line);
     if read::has(line, word::OFFER) {
-        return offer(marks, rows, doors, door, line, lent);
+        return Ok(offer(marks, rows, doors, door, line, lent));
     }
     if read::has(line, word::ANSWER) {
-        return answer(marks, rows, doors, door, line, lent);
+        return Ok(answer(marks, rows, doors, door, line, lent));
     }
     if read::has(line, word::AREA) {
-        return receive(marks, rows, doors, door, line);
+        return Ok(receive(marks, rows, doors, door, line));
     }
     if read::has(line, word::RESEND) {
-        return link_unit::resend(marks, rows, doors, door, lent);
+        return Ok(link_unit::resend(marks, rows, doors, door, lent));
     }
     if read::has(line, word::RESULT) {
-        return result(marks, rows, doors, door, lent);
+        return result(to, marks, rows, doors, door, lent);
     }
-    record_call(marks, rows, doors, door, line)
+    Ok(record_call(marks, rows, doors, door, line))
 }
 
 // Makes the call of a line and holds the line against what came.
 pub fn made(
+    to: Stdout,
     marks: &mut [u32; WORDS],
     rows: &mut [[u8; ROW]; ROWS],
     doors: &mut [[u8; PLACE]; DOORS],
     line: &[u8],
-) {
+) -> io::Result<()> {
     let mut lent = [say::FILL; say::LENT];
-    let reply = call(marks, rows, doors, read::given(line), &mut lent);
-    say::check(line, answer_of(reply), &lent, say::FILL);
+    let reply = call(to, marks, rows, doors, read::given(line), &mut lent)?;
+    say::check(to, line, answer_of(reply), &lent, say::FILL)
 }

@@ -1,5 +1,7 @@
 // Lines of standard input: bytes are read in chunks and collected into a line.
-use crate::output::may_repeat;
+use crate::output::{failed as say_failed, may_repeat};
+use std::io;
+use std::io::Read;
 use text_lines::{Collected, collect};
 
 // Where reading stands.
@@ -87,26 +89,23 @@ fn over(at: Place, counts: bool) -> Place {
 }
 
 // After a read that failed: it is made again, or the input is over and what stands of its last line is not run.
-fn failed(at: Place) -> Place {
-    if may_repeat() {
+fn failed(rt: HostRuntime, error: &io::Error, at: Place) -> Place {
+    if may_repeat(error) {
         return unfinished(at);
     }
-    os::fail(b"console: standard input");
+    say_failed(rt, b"console: standard input", error);
     over(at, false)
 }
 
 // Reads on, to a newline or through one chunk. The last line may end with the input.
-pub fn advance(chunk: &mut [u8], line: &mut [u8], at: Place) -> Place {
+pub fn advance(rt: HostRuntime, chunk: &mut [u8], line: &mut [u8], at: Place) -> Place {
     if at.used < at.filled {
         return resume(text_words::first(chunk, at.filled), at.used, line, at);
     }
-    let got = libc::read(0, chunk);
-    if got < 0 {
-        return failed(at);
+    let mut input = rt.stdin();
+    match input.read(chunk) {
+        Ok(0) => over(at, true),
+        Ok(filled) => resume(&chunk[..filled], 0, line, at),
+        Err(error) => failed(rt, &error, at),
     }
-    if got == 0 {
-        return over(at, true);
-    }
-    let filled = io::count(got, chunk);
-    resume(&chunk[..filled], 0, line, at)
 }

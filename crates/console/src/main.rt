@@ -1,4 +1,6 @@
 // The console: reads commands from standard input, a line each, runs each on one unit and writes one line for each (docs/CONSOLE.md).
+#![tactic(auto)]
+
 mod generation_calls;
 mod input;
 mod judge_calls;
@@ -20,15 +22,17 @@ use generation_calls::Called;
 use input::Place;
 use lines::Asked;
 use link_unit::{DOORS, PLACE, ROW, ROWS, WORDS};
+use std::env::{Env, FillError};
+use std::io;
 
 // A reading loop has to end: no input reaches this many turns.
 const TURNS: u64 = 0x8000_0000_0000_0000;
 
 // The generation record after a line, and whether the line's reply was written.
-#[derive(Clone, Copy)]
+#[derive(Drop)]
 struct Ran {
     record: GenerationRecord,
-    written: bool,
+    written: io::Result<()>,
 }
 
 // The forms without the unit: 20 to 24 are those of the generation record.
@@ -78,6 +82,7 @@ fn and_lent(out: &mut [u8], at: usize, lends: bool, lent: &[u8]) -> usize {
 
 // Runs a form and writes its reply.
 fn run_form(
+    rt: HostRuntime,
     marks: &mut [u32; WORDS],
     rows: &mut [[u8; ROW]; ROWS],
     doors: &mut [[u8; PLACE]; DOORS],
@@ -96,7 +101,7 @@ fn run_form(
     );
     let next = after.record;
     let end = and_lent(&mut out, after.end, lends, lent);
-    let written = output::finish(&mut out, end, 1);
+    let written = output::finish(&mut rt.stdout(), &mut out, end);
     Ran {
         record: next,
         written,
@@ -106,6 +111,7 @@ fn run_form(
 // Runs a line. The forms stand here, one a line, and beside them the kinds of their words, a letter each:
 // n is a number, s one to 65,535, o one to 255, f a flag, t two hex digits, c a cipher, p ciphers, e those that are enabled, r a record, b bytes and l the lent buffer.
 fn run_line(
+    rt: HostRuntime,
     marks: &mut [u32; WORDS],
     rows: &mut [[u8; ROW]; ROWS],
     doors: &mut [[u8; PLACE]; DOORS],
@@ -190,20 +196,21 @@ b
     match asked {
         Asked::Nothing => Ran {
             record,
-            written: true,
+            written: Ok(()),
         },
         Asked::Help => {
-            let written = unfit::help(forms);
+            let written = unfit::help(rt, forms);
             Ran { record, written }
         }
         Asked::Form { form, room, lends } => {
             // The forms from 27 on are those of the reader of pieces.
             if 26 < form {
-                let written = piece_calls::run(form, &words, &bytes, numbers, gathered);
+                let written = piece_calls::run(rt, form, &words, &bytes, numbers, gathered);
                 return Ran { record, written };
             }
             let n = text::within(room, &lent);
             run_form(
+                rt,
                 marks,
                 rows,
                 doors,
@@ -216,7 +223,7 @@ b
             )
         }
         _ => {
-            let written = unfit::unfit(number, forms, asked);
+            let written = unfit::unfit(rt, number, forms, asked);
             Ran { record, written }
         }
     }
@@ -225,13 +232,14 @@ b
 // The number of the line that is at hand, the one before it having this.
 fn counted(number: u64, whole: bool) -> u64 {
     if whole {
-        return std::num::wrapping_add_u64(number, 1);
+        return number.wrapping_add(1);
     }
     number
 }
 
 // Runs the line that is at hand, where it is whole.
 fn run_whole(
+    rt: HostRuntime,
     marks: &mut [u32; WORDS],
     rows: &mut [[u8; ROW]; ROWS],
     doors: &mut [[u8; PLACE]; DOORS],
@@ -245,17 +253,17 @@ fn run_whole(
     if !place.whole {
         return Ran {
             record,
-            written: true,
+            written: Ok(()),
         };
     }
     let words = text_lines::without_return(text_words::first(line, place.length));
     run_line(
-        marks, rows, doors, record, numbers, gathered, number, words, place.long,
+        rt, marks, rows, doors, record, numbers, gathered, number, words, place.long,
     )
 }
 
 // Runs the input to its end, or to a reply that cannot be written. The unit, the generation record and the reader of pieces stand here.
-fn run() {
+fn run(rt: HostRuntime) {
     let mut marks = [0u32; WORDS];
     let row = [0u8; ROW];
     let mut rows = [row; ROWS];
@@ -277,9 +285,10 @@ fn run() {
             return;
         }
         turns -= 1;
-        place = input::advance(&mut chunk, &mut line, place);
+        place = input::advance(rt, &mut chunk, &mut line, place);
         number = counted(number, place.whole);
         let ran = run_whole(
+            rt,
             &mut marks,
             &mut rows,
             &mut doors,
@@ -290,21 +299,34 @@ fn run() {
             &line,
             place,
         );
-        if !ran.written {
-            output::failed();
+        let Ran {
+            record: next,
+            written,
+        } = ran;
+        if let Err(error) = written {
+            output::failed(rt, b"console: standard output", &error);
             return;
         }
-        record = ran.record;
+        record = next;
     }
 }
 
-fn main() {
-    if 1 < os::arg_count() {
-        io::write_all(
-            2,
+// Whether the program has an argument besides its own name.
+fn has_argument(rt: HostRuntime) -> bool {
+    let mut room = [0u8; 1];
+    match rt.arg(1, &mut room) {
+        Err(FillError::NotPresent) => false,
+        _ => true,
+    }
+}
+
+fn main(rt: HostRuntime) {
+    if has_argument(rt) {
+        let _ = output::write(
+            &mut rt.stderr(),
             b"usage: console <LINES (it takes no arguments; docs/CONSOLE.md)\n",
         );
         return;
     }
-    run();
+    run(rt);
 }

@@ -1,54 +1,94 @@
 // What is written: all of a text, or nothing is taken for written.
+ghost use Rattle.std.specs.Prelude.{◌≤◌, length, take, OnOk, IfOk};
+ghost use Rattle.std.specs.Io.KnownBytes.{Appends};
+
 use crate::text::put;
+use std::io;
+use std::io::{ErrorKind, Write};
+use std::thread::yield_now;
 
 // A loop has to end: no text reaches this many tries.
 const TRIES: u64 = 0x8000_0000_0000_0000;
 
-// Whether the call that just failed may be made again: it was interrupted, or the other end has no room or nothing yet. The processor is handed on first.
-pub fn may_repeat() -> bool {
-    let error = os::errno();
-    if error == libc::EINTR {
-        return true;
+// As much of an error's text as is said.
+const REASON: usize = 128;
+
+// Whether the call that failed so may be made again: it was interrupted, or the other end has no room or nothing yet. The processor is handed on first.
+pub fn may_repeat(error: &io::Error) -> bool {
+    match error.kind() {
+        ErrorKind::Interrupted => true,
+        ErrorKind::WouldBlock => {
+            yield_now();
+            true
+        }
+        _ => false,
     }
-    if error == libc::EAGAIN {
-        libc::sched_yield();
-        return true;
-    }
-    false
 }
 
-// Writes all of a text: after a write that took a part, or none for now, the rest is tried again. False where a write fails or takes nothing.
-pub fn write(fd: i32, text: &[u8]) -> bool {
+// Writes a part of a text, and gives how many bytes that is: none where nothing is taken for now. A write that fails, or takes nothing at all, is an error.
+fn write_part<W: Write>(to: &mut W, text: &[u8]) -> io::Result<usize>
+    ensures within { IfOk result (λ n. n ≤ length text.now) }
+    ensures bytes { IfOk result (λ n. Appends (W.contents to.old) (W.contents to.new) (take n text.now)) }
+{
+    match to.write(text) {
+        Ok(0) => Err(io::Error::from(ErrorKind::WriteZero)),
+        Ok(n) => Ok(n),
+        Err(error) => {
+            if may_repeat(&error) {
+                return Ok(0);
+            }
+            Err(error)
+        }
+    }
+}
+
+// Writes all of a text: after a write that took a part, or none for now, the rest is tried again.
+pub fn write<W: Write>(to: &mut W, text: &[u8]) -> io::Result<()>
+    ensures { OnOk result (Appends (W.contents to.old) (W.contents to.new) text.now) }
+{
     let mut done = 0;
     let mut tries = TRIES;
     while 0 < tries {
         if text.len() <= done {
-            return true;
+            return Ok(());
         }
         tries -= 1;
-        let rest = &text[done..];
-        let got = libc::write(fd, rest);
-        if got == 0 {
-            return false;
-        }
-        if got < 0 {
-            if !may_repeat() {
-                return false;
-            }
-        }
-        let more = io::count(got, rest);
+        let more = write_part(to, &text[done..])?;
         done += more;
     }
-    false
+    Err(io::Error::from(ErrorKind::TimedOut))
 }
 
 // Ends the line that stands in a buffer, up to a place, and writes it.
-pub fn finish(out: &mut [u8], at: usize, fd: i32) -> bool {
+pub fn finish<W: Write>(to: &mut W, out: &mut [u8], at: usize) -> io::Result<()> {
     let end = put(out, at, b"\n");
-    write(fd, text_words::first(out, end))
+    write(to, text_words::first(out, end))
 }
 
-// Says on standard error that the last write failed, and why.
-pub fn failed() {
-    os::fail(b"console: standard output");
+// Where an error's text ends: std puts the system's number behind it, in brackets.
+fn reason_end(said: &[u8]) -> usize {
+    let at = text_words::place_of(said, 0, b'(');
+    if at < said.len() {
+        return at.saturating_sub(1);
+    }
+    at
+}
+
+// Puts the text of an error, as the system has it.
+fn put_reason(out: &mut [u8], at: usize, error: &io::Error) -> usize {
+    let mut text = [0u8; REASON];
+    let mut room = &mut text[..];
+    let _ = write!(room, "{error}");
+    let left = room.len();
+    let said = text_words::first(&text, REASON.saturating_sub(left));
+    put(out, at, text_words::first(said, reason_end(said)))
+}
+
+// Says on standard error what failed, and why.
+pub fn failed(rt: HostRuntime, what: &[u8], error: &io::Error) {
+    let mut out = [0u8; 256];
+    let after_what = put(&mut out, 0, what);
+    let before_reason = put(&mut out, after_what, b": ");
+    let end = put_reason(&mut out, before_reason, error);
+    let _ = finish(&mut rt.stderr(), &mut out, end);
 }

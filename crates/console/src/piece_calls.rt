@@ -2,6 +2,7 @@
 use crate::message_calls::listed;
 use crate::words::{Listed, enabled_in, small, taken};
 use crate::{output, piece_replies};
+use std::io;
 
 // As many ciphers as a line's bytes may list.
 const CIPHERS: usize = 5000;
@@ -61,16 +62,17 @@ fn call(
     }
 }
 
-// Makes a call and writes its reply; whether it was written.
+// Makes a call and writes its reply.
 pub fn run(
+    rt: HostRuntime,
     form: usize,
     words: &[u64],
     bytes: &[u8],
     numbers: &mut [u64],
     gathered: &mut [u8],
-) -> bool {
+) -> io::Result<()> {
     // The longest reply, an Init message's, has under 300 bytes.
     let mut out = [0u8; 512];
     let end = call(form, words, bytes, numbers, gathered, &mut out);
-    output::finish(&mut out, end, 1)
+    output::finish(&mut rt.stdout(), &mut out, end)
 }

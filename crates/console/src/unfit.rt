@@ -3,6 +3,7 @@ use crate::lines::Asked;
 use crate::output;
 use crate::text::{put, put_counted};
 use crate::texts::item;
+use std::io;
 
 // What a word of a kind is; b and l are both bytes.
 fn put_kind(out: &mut [u8], at: usize, kind: u8) -> usize {
@@ -30,24 +31,20 @@ fn put_expected(out: &mut [u8], at: usize, forms: &[u8], asked: Asked) -> usize 
     }
 }
 
-// error on standard output, and on standard error the line's number and what was expected. Whether error was written.
-pub fn unfit(number: u64, forms: &[u8], asked: Asked) -> bool {
-    if output::write(1, b"error\n") {
-        let mut out = [0u8; 256];
-        let after_line = put_counted(&mut out, b"line", number);
-        let before_expected = put(&mut out, after_line, b": ");
-        let end = put_expected(&mut out, before_expected, forms, asked);
-        output::finish(&mut out, end, 2);
-        return true;
-    }
-    false
+// error on standard output, and on standard error the line's number and what was expected. An Err says that error was not written.
+pub fn unfit(rt: HostRuntime, number: u64, forms: &[u8], asked: Asked) -> io::Result<()> {
+    output::write(&mut rt.stdout(), b"error\n")?;
+    let mut out = [0u8; 256];
+    let after_line = put_counted(&mut out, b"line", number);
+    let before_expected = put(&mut out, after_line, b": ");
+    let end = put_expected(&mut out, before_expected, forms, asked);
+    let _ = output::finish(&mut rt.stderr(), &mut out, end);
+    Ok(())
 }
 
-// help on standard output, and on standard error the forms. Whether help was written.
-pub fn help(forms: &[u8]) -> bool {
-    if output::write(1, b"help\n") {
-        output::write(2, forms);
-        return true;
-    }
-    false
+// help on standard output, and on standard error the forms. An Err says that help was not written.
+pub fn help(rt: HostRuntime, forms: &[u8]) -> io::Result<()> {
+    output::write(&mut rt.stdout(), b"help\n")?;
+    let _ = output::write(&mut rt.stderr(), forms);
+    Ok(())
 }

@@ -1,0 +1,6 @@
+-- `read::place` is safe and ends: the measure is the number of bytes left.
+use Rattle.std.proofs.Common.{◌-◌, length}
+use Rattle.bench.proofs.read.place.Given as goal
+
+abbrev pub decreases-loop-at : goal.decreases-loop-at
+decreases-loop-at l = length l.s - l.at

@@ -1,0 +1,13 @@
+-- `output::write`: what stands before the place in the text was appended to what the other end holds. The measure is the number of tries that are left.
+use Rattle.std.proofs.Common.{◌≤◌, length, take}
+use Rattle.std.specs.Io.KnownBytes.{Appends}
+use Rattle.console.proofs.output.write.Given as goal
+
+abbrev pub invariant-loop-tries : goal.invariant-loop-tries
+invariant-loop-tries g l = record {
+  within : l.done ≤ length l.text;
+  appended : Appends (g.W.Write.contents l.initial.to) (g.W.Write.contents l.to) (take l.done l.text);
+}
+
+abbrev pub decreases-loop-tries : goal.decreases-loop-tries
+decreases-loop-tries g l = l.tries
