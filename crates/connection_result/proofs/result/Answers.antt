@@ -1,9 +1,13 @@
 -- `connection_result::result` meets its contract.
+use mathlib.Core.Path.{◌≡◌}
+use Rattle.door.specs.declared.Phase.TheVariants as phase
 use Rattle.connection_result.proofs.Outcomes.{is_open_lem, plain_told, out_told}
 use Rattle.connection_result.proofs.result.Goals as goal
 
 pub open_result-requires : goal.open_result-requires
-open_result-requires c = is_open_lem c.args.door c.phase_of-phase.result c.phase_of-phase.ensures c.in-Open.is
+open_result-requires c =
+    let is_open : c.phase_of-phase.result ≡ phase.Open = cc in
+    is_open_lem c.args.door c.phase_of-phase.result c.phase_of-phase.ensures is_open
 
 pub returns-in-Plain : goal.returns-in-Plain
 returns-in-Plain c = plain_told _ _ c.phase_of-phase.result c.phase_of-phase.ensures c.in-Plain.is
