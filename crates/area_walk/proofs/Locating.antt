@@ -1,5 +1,5 @@
 -- What is found of the options still to come, beside the ENO options already seen.
-use Prim.Native.Nat.{ℕ, zero, suc, ◌+◌, ◌≤◌, ◌<◌}
+use Prim.Native.Nat.{ℕ, zero, suc, ◌+◌, ◌-◌, ◌≤◌, ◌<◌}
 use mathlib.Core.Path.{◌≡◌, refl, sym, ◌∙◌, ap}
 use mathlib.Core.List.{List, [], ◌∷◌, ◌++◌}
 use mathlib.Core.Bool.{Bool, true, false, cond}
@@ -73,6 +73,10 @@ module _ (syn : Bool) (k i n : ℕ) where
   pub left_two : k ≡ 2 → after syn (kept k i n) (readable []) ≡ cond syn missing (found i n)
   unfolding enos choose
   left_two e = rw e
+
+-- an option's end leaves less of the area
+pub item_onward : (s : List ℕ) (i j kind n : ℕ) → item (record { kind = kind; start = i; len = n }) j ≡ option_at s i → length s - j < length s - i
+item_onward s i j kind n e = let w = option_onward s i (record { kind = kind; start = i; len = n }) j (sym e) in omega arith
 
 -- the loop of `locate`, over an area of at most 40 bytes
 module _ (s : List ℕ) (syn : Bool) where

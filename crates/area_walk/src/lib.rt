@@ -50,6 +50,7 @@ pub enum Located {
     Found { start: usize, len: usize },
 }
 
+#[tactic(auto, using(crate::proofs::Locating::item_onward))]
 pub fn locate(area: &[u8], syn: bool) -> Located
     ensures { Locates area.now syn result }
 {

@@ -2,10 +2,11 @@
 use Prim.Native.Nat.{ℕ, ◌-◌, ◌%◌, ◌≤◌, ◌<◌}
 use mathlib.Core.Path.{◌≡◌, refl, sym, ◌∙◌, ap, ap₂}
 use mathlib.Core.List.{List, [], ◌∷◌}
-use mathlib.Core.Bool.{Bool, true, false, cond, ◌&&◌}
+use mathlib.Core.Bool.{Bool, true, false, cond, not, ◌&&◌}
 use mathlib.Core.Option.{none}
 use native.Mathlib.Omega.{arith}
-use borrow.Author.Tests.{lt-ltb, le-ltb, eq-eqb, ne_eqb}
+use borrow.Author.Tests.{lt-ltb, le-ltb, eq-eqb, ne_eqb, not-false}
+use Rattle.eno.proofs.Laws.Tests.{known_range}
 use lib.Dec.{leb, eqb}
 use lib.ListN.{length, get_or, take, drop, length-drop}
 use lib.Seq.{take_all}
@@ -22,6 +23,13 @@ use Rattle.key_terms.proofs.Giving.{own_none, peer_none}
 pub known_told : (t : ℕ) (x : Tep) (b : Bool) → x ≡ tep_of t → x.known ≡ b → is_known t ≡ b
 unfolding tep_of
 known_told t x b e f = sym (ap (λ (y : Tep). y.known) e) ∙ f
+
+-- a known TEP's range, by the test of the code
+pub known_low : (t : ℕ) (x : Tep) → x ≡ tep_of t → not x.known ≡ false → 0x21 ≤ t
+known_low t x e f = (known_range t (known_told t x true e (not-false x.known f))).0
+
+pub known_high : (t : ℕ) (x : Tep) → x ≡ tep_of t → not x.known ≡ false → t ≤ 0x24
+known_high t x e f = (known_range t (known_told t x true e (not-false x.known f))).1
 
 -- no second byte: the first option is empty
 a_short : (s : List ℕ) → length s < 2 → false ≡ is_whole (option_of_a s)

@@ -215,6 +215,7 @@ fn terms_by<'a>(t: u8, identifier: &'a [u8], own: &'a [u8], peer: &'a [u8]) -> R
 
 // What a resumed connection is keyed by. `role` and `tep` are those that `result` gave, the transcript is the one that it wrote, and the identifier that of the record in hand.
 // Refused with 3: a role above 1, a TEP byte whose low seven bits are no known TEP, an identifier that has not 18 bytes.
+#[tactic(auto, using(crate::proofs::Cutting::known_low, crate::proofs::Cutting::known_high))]
 pub fn resumption_terms<'a>(
     role: u8,
     tep: u8,

@@ -25,6 +25,10 @@ abbrev summed_after : List Entry → Bool → ℕ → Reading (Unit {0}) Subopti
 summed_after es first g (faulty f) = ill_formed
 summed_after es first g (readable l) = well_formed (cond first (global_byte l) g) (entries_from 0x21 es (teps l))
 
+-- a suboption's end leaves less of the option
+pub item_onward : (o : List ℕ) (i j : ℕ) (x : Suboption) → item x j ≡ suboption_at o i → length o - j < length o - i
+item_onward o i j x e = let w = suboption_onward o i x j (sym e) in omega arith
+
 module _ (o : List ℕ) where
   pub record Told (es : List Entry) (i : ℕ) (first : Bool) (g : ℕ) : Type 0 where
     pub short : length o ≤ 255

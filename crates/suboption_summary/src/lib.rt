@@ -32,6 +32,7 @@ fn ill_formed() -> Summary
 }
 
 // The summary of an option, whose suboptions stand behind its kind and length byte.
+#[tactic(auto, using(crate::proofs::Told::item_onward))]
 pub fn summarize(option: &[u8]) -> Summary
     ensures { result ≡ summary_of option.now }
 {

@@ -22,7 +22,7 @@ pub struct Position {
 
 // Each row of the pool has a mark: bit i % 32, from the lowest, of word i / 32 is row i's, and is set where the row is in use.
 #[repr(C)]
-#[derive(Drop)]
+#[derive(Clone, Copy)]
 pub struct LinkUnit {
     pub marks: [u32; WORDS],
     pub rows: [SessionRecord; ROWS],

@@ -24,20 +24,11 @@ overflow_cast-at c = let v = c.loop-kind.invariant in omega (arith, v.short, v.a
 pub returns-in-Fault : goal.returns-in-Fault
 returns-in-Fault c = record { right = seen_fault _ _ c.loop-kind.invariant ((sym c.option_at-p.ensures ∙ ap (piece_of _) c.in-Fault.is)); within = tt }
 
-pub loop-kind-smaller-then-seen-eq0 : goal.loop-kind-smaller-then-seen-eq0
-loop-kind-smaller-then-seen-eq0 c = let h = seen_onward _ _ c.loop-kind.invariant ((sym c.option_at-p.ensures ∙ ap (piece_of _) c.in-Item.is)) in omega arith
-
 pub loop-kind-preserved-then-seen-eq0 : goal.loop-kind-preserved-then-seen-eq0
 loop-kind-preserved-then-seen-eq0 c = seen_first _ _ c.loop-kind.invariant ((sym c.option_at-p.ensures ∙ ap (piece_of _) c.in-Item.is)) (omega arith) (omega arith)
 
-pub loop-kind-smaller-else-seen-eq0 : goal.loop-kind-smaller-else-seen-eq0
-loop-kind-smaller-else-seen-eq0 c = let h = seen_onward _ _ c.loop-kind.invariant ((sym c.option_at-p.ensures ∙ ap (piece_of _) c.in-Item.is)) in omega arith
-
 pub loop-kind-preserved-else-seen-eq0 : goal.loop-kind-preserved-else-seen-eq0
 loop-kind-preserved-else-seen-eq0 c = seen_again _ _ c.loop-kind.invariant ((sym c.option_at-p.ensures ∙ ap (piece_of _) c.in-Item.is)) (omega arith) (omega arith)
-
-pub loop-kind-smaller : goal.loop-kind-smaller
-loop-kind-smaller c = let h = seen_onward _ _ c.loop-kind.invariant ((sym c.option_at-p.ensures ∙ ap (piece_of _) c.in-Item.is)) in omega arith
 
 pub loop-kind-preserved : goal.loop-kind-preserved
 loop-kind-preserved c = seen_other _ _ c.loop-kind.invariant ((sym c.option_at-p.ensures ∙ ap (piece_of _) c.in-Item.is)) (omega arith)

@@ -33,15 +33,3 @@ returns-then-role-eq0 c = at_a _ _ _ _ (omega arith) (known_told _ _ _ c.of-know
 
 pub returns-else-role-eq0 : goal.returns-else-role-eq0
 returns-else-role-eq0 c = at_b _ _ _ _ (omega arith) (known_told _ _ _ c.of-known.ensures (not-false _ c.if-not-known.false)) (omega arith) _ c.wide-n.ensures _ _ refl refl (λ e. omega arith) _ c.terms_by-else-role-eq0.ensures
-
-pub terms_by-requires-clause-fact_1 : goal.terms_by-requires-clause-fact_1
-terms_by-requires-clause-fact_1 c = (known_range _ (known_told _ _ _ c.of-known.ensures (not-false _ c.if-not-known.false))).0
-
-pub terms_by-requires-clause-fact_2 : goal.terms_by-requires-clause-fact_2
-terms_by-requires-clause-fact_2 c = (known_range _ (known_told _ _ _ c.of-known.ensures (not-false _ c.if-not-known.false))).1
-
-pub terms_by-requires-else-role-eq0-clause-fact_1 : goal.terms_by-requires-else-role-eq0-clause-fact_1
-terms_by-requires-else-role-eq0-clause-fact_1 c = (known_range _ (known_told _ _ _ c.of-known.ensures (not-false _ c.if-not-known.false))).0
-
-pub terms_by-requires-else-role-eq0-clause-fact_2 : goal.terms_by-requires-else-role-eq0-clause-fact_2
-terms_by-requires-else-role-eq0-clause-fact_2 c = (known_range _ (known_told _ _ _ c.of-known.ensures (not-false _ c.if-not-known.false))).1

@@ -25,14 +25,8 @@ returns-in-End c = told_end _ c.loop-teps.invariant (sym ((c.suboption_at-p.ensu
 pub returns-in-IllFormed : goal.returns-in-IllFormed
 returns-in-IllFormed c = c.ill_formed-in-IllFormed.ensures ∙ told_ill_formed _ c.loop-teps.invariant (sym ((c.suboption_at-p.ensures)) ∙ ap piece_of c.in-IllFormed.is)
 
-pub loop-teps-smaller-then-first : goal.loop-teps-smaller-then-first
-loop-teps-smaller-then-first c = let h = told_onward _ c.loop-teps.invariant (sym ((c.suboption_at-p.ensures)) ∙ ap piece_of c.in-Global.is) in omega arith
-
 pub loop-teps-preserved-then-first : goal.loop-teps-preserved-then-first
 loop-teps-preserved-then-first c = told_global _ c.loop-teps.invariant (sym ((c.suboption_at-p.ensures)) ∙ ap piece_of c.in-Global.is) c.if-first.true
-
-pub loop-teps-smaller-else-first : goal.loop-teps-smaller-else-first
-loop-teps-smaller-else-first c = let h = told_onward _ c.loop-teps.invariant (sym ((c.suboption_at-p.ensures)) ∙ ap piece_of c.in-Global.is) in omega arith
 
 pub loop-teps-preserved-else-first : goal.loop-teps-preserved-else-first
 loop-teps-preserved-else-first c = told_global_again _ c.loop-teps.invariant (sym ((c.suboption_at-p.ensures)) ∙ ap piece_of c.in-Global.is) c.if-first.false
@@ -56,21 +50,12 @@ overflow_cast-size c = let h = told_fits _ c.loop-teps.invariant (sym ((c.subopt
 pub bounds-teps-k-then-name-le36 : goal.bounds-teps-k-then-name-le36
 bounds-teps-k-then-name-le36 c = omega arith
 
-pub loop-teps-smaller-then-name-le36 : goal.loop-teps-smaller-then-name-le36
-loop-teps-smaller-then-name-le36 c = let h = told_onward _ c.loop-teps.invariant (sym ((c.suboption_at-p.ensures)) ∙ ap piece_of c.in-Tep.is) in omega arith
-
 pub loop-teps-preserved-then-name-le36 : goal.loop-teps-preserved-then-name-le36
 unfolding again
 loop-teps-preserved-then-name-le36 c = told_known _ c.loop-teps.invariant (sym ((c.suboption_at-p.ensures)) ∙ ap piece_of c.in-Tep.is) _ (omega arith) (omega arith)
 
-pub loop-teps-smaller-else-name-le36 : goal.loop-teps-smaller-else-name-le36
-loop-teps-smaller-else-name-le36 c = let h = told_onward _ c.loop-teps.invariant (sym ((c.suboption_at-p.ensures)) ∙ ap piece_of c.in-Tep.is) in omega arith
-
 pub loop-teps-preserved-else-name-le36 : goal.loop-teps-preserved-else-name-le36
 loop-teps-preserved-else-name-le36 c = told_unknown _ c.loop-teps.invariant (sym ((c.suboption_at-p.ensures)) ∙ ap piece_of c.in-Tep.is) (λ m h q. omega arith)
-
-pub loop-teps-smaller : goal.loop-teps-smaller
-loop-teps-smaller c = let h = told_onward _ c.loop-teps.invariant (sym ((c.suboption_at-p.ensures)) ∙ ap piece_of c.in-Tep.is) in omega arith
 
 pub loop-teps-preserved : goal.loop-teps-preserved
 loop-teps-preserved c = told_unknown _ c.loop-teps.invariant (sym ((c.suboption_at-p.ensures)) ∙ ap piece_of c.in-Tep.is) (λ m h q. omega arith)
