@@ -1,5 +1,6 @@
 -- `pool_doors::put_door` meets its contract.
 use native.Mathlib.Omega.{arith}
+use borrow.Author.Rules.{rules}
 use Rattle.unit.specs.Numbers.{doors_n}
 use Rattle.pool.proofs.PlacedLaws.{put_past, put_in}
 use Rattle.pool_doors.proofs.put_door.Goals as goal
@@ -12,5 +13,4 @@ pub returns : goal.returns
 unfolding doors_n
 returns c =
     let a = c.args in
-    let h = c.bytes_of-bytes.ensures in
-    put_in a.doors.now a.d _ a.position (omega arith) h.0 h.1 h.2
+    put_in a.doors.now a.d _ a.position (omega arith) (search rules) (search rules) (search rules)

@@ -7,6 +7,7 @@ use Rattle.unit_bytes.specs.Content.{unit_in}
 use Rattle.unit.specs.Numbers.{doors_n}
 use Rattle.door.specs.Numbered.{lent_of}
 use native.Mathlib.Omega.{arith}
+use borrow.Author.Rules.{rules}
 use Rattle.unit_count.proofs.count.Goals as goal
 
 pub returns-then-door-ge-DOORS : goal.returns-then-door-ge-DOORS
@@ -19,4 +20,4 @@ pub returns : goal.returns
 unfolding doors_n outcome seen_of
 returns c =
     let a = c.args in
-    step_counted a.marks.now a.rows.now a.doors.now a.door (omega arith) _ c.position_at-position.ensures count _ _ _ c.view_of-holder.ensures.1 c.count.ensures
+    step_counted a.marks.now a.rows.now a.doors.now a.door (omega arith) _ c.position_at-position.ensures count _ _ _ c.view_of-holder.ensures.1 (search rules)
