@@ -104,15 +104,15 @@ static void any_bytes(void) {
     }
 }
 
-/* Eight bytes that name the door of a record, its number and one, all along its identifier and its secret. */
-static const uint8_t mark[4] = {0xd7, 0x5e, 0xc2, 0xe9};
-
+/* Eight bytes all along a record's identifier and its secret. The first four are a mark that names its door, by its number and one: a copy that is cut off behind them names it still. */
 static void mark_bytes(uint8_t *bytes, size_t length, size_t door, uint32_t serial) {
     for (size_t i = 0; i < length; i++) {
-        const uint8_t eight[8] = {mark[0], mark[1], mark[2], mark[3], (uint8_t)(door + 1), (uint8_t)serial, (uint8_t)(serial >> 8), (uint8_t)(serial >> 16)};
+        const uint8_t eight[8] = {0xd7, 0x5e, (uint8_t)(door + 1), 0xe9, 0xc2, (uint8_t)serial, (uint8_t)(serial >> 8), (uint8_t)(serial >> 16)};
         bytes[i] = eight[i % 8];
     }
 }
+
+static bool is_mark(const uint8_t *at) { return at[0] == 0xd7 && at[1] == 0x5e && at[3] == 0xe9; }
 
 #ifndef SANITIZED
 /* Whether a mark of another door stands on the stack that the call ran on; counts those of its own. */
@@ -120,11 +120,9 @@ static unsigned own_marks;
 
 static bool another_door_left(size_t door) {
     const uint8_t *at = painted_stack, *end = painted_stack + sizeof painted_stack - 8;
-    while ((at = memchr(at, mark[0], (size_t)(end - at)))) {
-        if (memcmp(at, mark, sizeof mark) == 0) {
-            /* A copy may be cut off behind its mark, with other bytes there: then those before it name the door. */
-            const bool own = at[4] == door + 1 || (at >= painted_stack + 4 && at[-4] == door + 1);
-            if (!own) return true;
+    while ((at = memchr(at, 0xd7, (size_t)(end - at)))) {
+        if (is_mark(at)) {
+            if (at[2] != door + 1) return true;
             own_marks++;
         }
         at++;
@@ -188,7 +186,7 @@ static void made_by_calls(void) {
         some_arguments();
         if (call == STORE) {
             serial++;
-            if (memcmp(asked.identifier, mark, sizeof mark) != 0) mark_bytes(asked.identifier, sizeof asked.identifier, asked.door, serial);
+            if (!is_mark(asked.identifier)) mark_bytes(asked.identifier, sizeof asked.identifier, asked.door, serial);
             mark_bytes(asked.secret, sizeof asked.secret, asked.door, serial);
         }
         const struct asked given = asked;
