@@ -1,3 +1,4 @@
+-- `feed_frames` meets its contract.
 use mathlib.Core.Path.{refl, ◌∙◌, ap}
 use native.Mathlib.Omega.{arith}
 use Rattle.pieces_layout.specs.Answers.{taken_of}
