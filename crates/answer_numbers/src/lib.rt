@@ -11,23 +11,17 @@ ghost use Rattle.answer_numbers.specs.Refused.{in_status, in_writing, in_says, i
 
 use door::Refusal;
 use finder::FindStatus;
-use frame::{HeaderSays, HeaderWritten, NonceSays, PlaintextRead, PlaintextWritten};
-use generation::GenerationReply;
-use init::{InitAnswer, InitWritten};
+use frame::{
+    Header, HeaderReadRefusal, HeaderWriteRefusal, OtherLength, Plaintext, PlaintextWriteRefusal,
+    TooShort,
+};
+use generation::{GenerationRefusal, GenerationReply};
+use init::{InitMessage, InitRefusal, InitWriteRefusal};
 
 pub fn by_unit(refusal: Refusal) -> u64
     ensures { result ≡ refusal_number refusal }
 {
-    match refusal {
-        Refusal::NoDoor => 1,
-        Refusal::AreaTooLong => 2,
-        Refusal::Unfit => 3,
-        Refusal::OutOfTurn => 4,
-        Refusal::NoRoom => 5,
-        Refusal::Full => 6,
-        Refusal::AlreadyHeld => 7,
-        Refusal::NotHeld => 16,
-    }
+    u64::from(refusal.number())
 }
 
 pub fn by_finder(status: FindStatus) -> u64
@@ -41,101 +35,84 @@ pub fn by_finder(status: FindStatus) -> u64
     }
 }
 
-pub fn by_init_writer(answer: InitWritten) -> u64
+pub fn by_init_writer(answer: Result<usize, InitWriteRefusal>) -> u64
     ensures { result ≡ in_writing (writing_of answer) }
 {
     match answer {
-        InitWritten::Written(_) => 0,
-        InitWritten::Unfit => 3,
-        InitWritten::NoRoom => 5,
+        Ok(_) => 0,
+        Err(InitWriteRefusal::Unfit) => 3,
+        Err(InitWriteRefusal::NoRoom) => 5,
     }
 }
 
-pub fn by_init_reader(answer: InitAnswer) -> u64
+pub fn by_init_reader(answer: Result<InitMessage, InitRefusal>) -> u64
     ensures { result ≡ in_says (says_of answer) }
 {
     match answer {
-        InitAnswer::Read {
-            cipher: _,
-            count: _,
-            length: _,
-        } => 0,
-        InitAnswer::Unfit => 3,
-        InitAnswer::Unreadable => 8,
-        InitAnswer::Incomplete => 9,
-        InitAnswer::NoCommonCipher => 10,
+        Ok(_) => 0,
+        Err(InitRefusal::Unfit) => 3,
+        Err(InitRefusal::Unreadable) => 8,
+        Err(InitRefusal::Incomplete) => 9,
+        Err(InitRefusal::NoCommonCipher) => 10,
     }
 }
 
-pub fn by_header_writer(answer: HeaderWritten) -> u64
+pub fn by_header_writer(answer: Result<u64, HeaderWriteRefusal>) -> u64
     ensures { result ≡ in_frame (written_reply answer) }
 {
     match answer {
-        HeaderWritten::Next(_) => 0,
-        HeaderWritten::NoRoom => 5,
-        HeaderWritten::NoFrame => 11,
+        Ok(_) => 0,
+        Err(HeaderWriteRefusal::NoRoom) => 5,
+        Err(HeaderWriteRefusal::NoFrame) => 11,
     }
 }
 
-pub fn by_header_reader(answer: HeaderSays) -> u64
+pub fn by_header_reader(answer: Result<Header, HeaderReadRefusal>) -> u64
     ensures { result ≡ in_frame (header_reply answer) }
 {
     match answer {
-        HeaderSays::Header {
-            rekey: _,
-            clen: _,
-            next: _,
-        } => 0,
-        HeaderSays::Incomplete => 9,
-        HeaderSays::NoFrame => 11,
+        Ok(_) => 0,
+        Err(HeaderReadRefusal::Incomplete) => 9,
+        Err(HeaderReadRefusal::NoFrame) => 11,
     }
 }
 
-pub fn by_nonce(answer: NonceSays) -> u64
+pub fn by_nonce(answer: Result<[u8; 12], OtherLength>) -> u64
     ensures { result ≡ in_frame (nonce_reply answer) }
 {
     match answer {
-        NonceSays::Made => 0,
-        NonceSays::OtherLength => 3,
+        Ok(_nonce) => 0,
+        Err(OtherLength) => 3,
     }
 }
 
-pub fn by_plaintext_writer(answer: PlaintextWritten) -> u64
+pub fn by_plaintext_writer(answer: Result<usize, PlaintextWriteRefusal>) -> u64
     ensures { result ≡ in_frame (plaintext_written_reply answer) }
 {
     match answer {
-        PlaintextWritten::Wrote(_) => 0,
-        PlaintextWritten::NoRoom => 5,
-        PlaintextWritten::TooLong => 11,
+        Ok(_) => 0,
+        Err(PlaintextWriteRefusal::NoRoom) => 5,
+        Err(PlaintextWriteRefusal::TooLong) => 11,
     }
 }
 
-pub fn by_plaintext_reader(answer: PlaintextRead) -> u64
+pub fn by_plaintext_reader(answer: Result<Plaintext, TooShort>) -> u64
     ensures { result ≡ in_frame (plaintext_reply answer) }
 {
     match answer {
-        PlaintextRead::Plaintext {
-            fin: _,
-            urg: _,
-            urgent: _,
-            data_at: _,
-        } => 0,
-        PlaintextRead::Short => 12,
+        Ok(_) => 0,
+        Err(TooShort) => 12,
     }
 }
 
-pub fn by_generation(answer: GenerationReply) -> u64
+pub fn by_generation(answer: Result<GenerationReply, GenerationRefusal>) -> u64
     ensures { result ≡ in_generation (reply_of answer) }
 {
     match answer {
-        GenerationReply::Sent {
-            generation: _,
-            rekey: _,
-        } => 0,
-        GenerationReply::Received(_) => 0,
-        GenerationReply::Owed => 4,
-        GenerationReply::PastLast => 13,
-        GenerationReply::Finished => 14,
-        GenerationReply::Unanswered => 15,
+        Ok(_) => 0,
+        Err(GenerationRefusal::Owed) => 4,
+        Err(GenerationRefusal::PastLast) => 13,
+        Err(GenerationRefusal::Finished) => 14,
+        Err(GenerationRefusal::Unanswered) => 15,
     }
 }

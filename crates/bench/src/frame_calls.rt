@@ -1,7 +1,7 @@
 // Lines that are calls of the frame library on headers, offsets and nonces.
 use crate::said::Answer;
 use crate::{read, said, say, word};
-use frame::{HeaderSays, HeaderWritten, NextOffset, NonceSays};
+use frame::{Header, HeaderReadRefusal, HeaderWriteRefusal, OtherLength};
 use std::io;
 use std::io::Stdout;
 
@@ -14,10 +14,10 @@ fn clen(line: &[u8]) -> usize {
     read::number(line, word::LENGTH) as usize
 }
 
-fn next_answer(came: NextOffset) -> Answer {
+fn next_answer(came: Option<u64>) -> Answer {
     match came {
-        NextOffset::Next(next) => said::one(said::NEXT, next),
-        NextOffset::NoFrame => said::refused(11),
+        Some(next) => said::one(said::NEXT, next),
+        None => said::refused(11),
     }
 }
 
@@ -26,15 +26,15 @@ pub fn next_offset(to: Stdout, line: &[u8]) -> io::Result<()> {
     say::compared(to, line, next_answer(came), true)
 }
 
-fn written_answer(came: HeaderWritten) -> Answer {
+fn written_answer(came: Result<u64, HeaderWriteRefusal>) -> Answer {
     match came {
-        HeaderWritten::Next(next) => said::one(said::NEXT, next),
-        HeaderWritten::NoRoom => said::refused(5),
-        HeaderWritten::NoFrame => said::refused(11),
+        Ok(next) => said::one(said::NEXT, next),
+        Err(HeaderWriteRefusal::NoRoom) => said::refused(5),
+        Err(HeaderWriteRefusal::NoFrame) => said::refused(11),
     }
 }
 
-fn write_header(line: &[u8], lent: &mut [u8]) -> HeaderWritten {
+fn write_header(line: &[u8], lent: &mut [u8]) -> Result<u64, HeaderWriteRefusal> {
     let rekey = read::flag(line, word::REKEY);
     let room = read::at_most(line, word::INTO, lent.len());
     frame::write_header(rekey, clen(line), offset(line), &mut lent[0..room])
@@ -46,44 +46,48 @@ pub fn header_written(to: Stdout, line: &[u8]) -> io::Result<()> {
     say::check(to, line, written_answer(came), &lent, say::FILL)
 }
 
-fn header_answer(says: HeaderSays) -> Answer {
-    match says {
-        HeaderSays::Header { rekey, clen, next } => said::four(
+fn header_answer(came: Result<Header, HeaderReadRefusal>) -> Answer {
+    match came {
+        Ok(header) => said::four(
             said::HEADER,
-            said::flag(rekey),
-            clen as u64,
-            next,
+            said::flag(header.rekey),
+            header.clen as u64,
+            header.next,
             0,
         ),
-        HeaderSays::Incomplete => said::refused(9),
-        HeaderSays::NoFrame => said::refused(11),
+        Err(HeaderReadRefusal::Incomplete) => said::refused(9),
+        Err(HeaderReadRefusal::NoFrame) => said::refused(11),
     }
 }
 
-// The associated data stand behind the colon.
+// The associated data, zeros beside a refusal, stand behind the colon.
 pub fn header_read(to: Stdout, line: &[u8]) -> io::Result<()> {
     let mut bytes = [0u8; 8];
     let k = read::list(line, word::BYTES, &mut bytes);
-    let r = frame::read_header(text_words::first(&bytes, k), offset(line));
-    let says = r.says;
-    let associated = r.associated;
-    say::told(to, line, header_answer(says), &associated)
+    let came = frame::read_header(text_words::first(&bytes, k), offset(line));
+    let associated = match came {
+        Ok(header) => header.associated,
+        Err(_) => [0; 3],
+    };
+    say::told(to, line, header_answer(came), &associated)
 }
 
-fn nonce_answer(says: NonceSays) -> Answer {
-    match says {
-        NonceSays::Made => said::plain(said::MADE),
-        NonceSays::OtherLength => said::refused(3),
+fn nonce_answer(came: Result<[u8; 12], OtherLength>) -> Answer {
+    match came {
+        Ok(_) => said::plain(said::MADE),
+        Err(OtherLength) => said::refused(3),
     }
 }
 
 pub fn nonce(to: Stdout, line: &[u8]) -> io::Result<()> {
     let mut fixed = [0u8; 16];
     let k = read::list(line, word::FIXED, &mut fixed);
-    let r = frame::nonce(text_words::first(&fixed, k), offset(line));
-    let says = r.says;
-    let nonce = r.nonce;
-    say::told(to, line, nonce_answer(says), &nonce)
+    let came = frame::nonce(text_words::first(&fixed, k), offset(line));
+    let nonce = match came {
+        Ok(made) => made,
+        Err(OtherLength) => [0; 12],
+    };
+    say::told(to, line, nonce_answer(came), &nonce)
 }
 
 pub fn frame_id(to: Stdout, line: &[u8]) -> io::Result<()> {

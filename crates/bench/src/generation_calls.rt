@@ -1,20 +1,21 @@
 // Lines that are steps of a generation record.
 use crate::said::Answer;
 use crate::{read, said, say, word};
-use generation::{GenerationRecord, GenerationReply, GenerationStep};
+use generation::{GenerationRecord, GenerationRefusal, GenerationReply};
+use generation_lender::Returned;
 use std::io;
 use std::io::Stdout;
 
-fn reply_answer(reply: GenerationReply) -> Answer {
+fn reply_answer(reply: Result<GenerationReply, GenerationRefusal>) -> Answer {
     match reply {
-        GenerationReply::Sent { generation, rekey } => {
+        Ok(GenerationReply::Sent { generation, rekey }) => {
             said::four(said::SENT, generation as u64, said::flag(rekey), 0, 0)
         }
-        GenerationReply::Received(generation) => said::one(said::RECEIVED, generation as u64),
-        GenerationReply::Owed => said::refused(4),
-        GenerationReply::PastLast => said::refused(13),
-        GenerationReply::Finished => said::refused(14),
-        GenerationReply::Unanswered => said::refused(15),
+        Ok(GenerationReply::Received(generation)) => said::one(said::RECEIVED, generation as u64),
+        Err(GenerationRefusal::Owed) => said::refused(4),
+        Err(GenerationRefusal::PastLast) => said::refused(13),
+        Err(GenerationRefusal::Finished) => said::refused(14),
+        Err(GenerationRefusal::Unanswered) => said::refused(15),
     }
 }
 
@@ -30,7 +31,7 @@ fn record_answer(g: GenerationRecord) -> Answer {
 }
 
 // A step on the record, which is lent for it.
-fn step(g: GenerationRecord, line: &[u8]) -> GenerationStep {
+fn step(g: GenerationRecord, line: &[u8]) -> Returned {
     if read::has(line, word::RECEIVE) {
         return generation_lender::lend_to_receive(g, read::flag(line, word::REKEY));
     }

@@ -1,7 +1,7 @@
 // Lines that write or read an Init message.
 use crate::said::Answer;
 use crate::{read, said, say, word};
-use init::{Enabled, InitAnswer, InitRead, InitWritten};
+use init::{Enabled, InitMessage, InitRefusal, InitWriteRefusal};
 use std::io;
 use std::io::Stdout;
 
@@ -28,11 +28,11 @@ pub fn first(ciphers: &[u16], n: usize) -> &[u16] {
     &ciphers[0..n]
 }
 
-fn written_answer(came: InitWritten) -> Answer {
+fn written_answer(came: Result<usize, InitWriteRefusal>) -> Answer {
     match came {
-        InitWritten::Written(n) => said::one(said::WROTE, n as u64),
-        InitWritten::Unfit => said::refused(3),
-        InitWritten::NoRoom => said::refused(5),
+        Ok(n) => said::one(said::WROTE, n as u64),
+        Err(InitWriteRefusal::Unfit) => said::refused(3),
+        Err(InitWriteRefusal::NoRoom) => said::refused(5),
     }
 }
 
@@ -42,7 +42,12 @@ fn taken(line: &[u8]) -> u16 {
     wire_numbers::read_u16(&cipher, 0)
 }
 
-fn write1(line: &[u8], nonce: &[u8], key: &[u8], lent: &mut [u8]) -> InitWritten {
+fn write1(
+    line: &[u8],
+    nonce: &[u8],
+    key: &[u8],
+    lent: &mut [u8],
+) -> Result<usize, InitWriteRefusal> {
     let tep = read::byte(line, word::TEP);
     let mut offered = [0u16; 8];
     let n = ciphers(line, word::CIPHERS, &mut offered);
@@ -50,7 +55,7 @@ fn write1(line: &[u8], nonce: &[u8], key: &[u8], lent: &mut [u8]) -> InitWritten
 }
 
 // Init2 where the line names the cipher that is taken, else Init1.
-fn write(line: &[u8], lent: &mut [u8]) -> InitWritten {
+fn write(line: &[u8], lent: &mut [u8]) -> Result<usize, InitWriteRefusal> {
     let room = read::at_most(line, word::INTO, lent.len());
     let part = &mut lent[0..room];
     let mut nonce = [0u8; 64];
@@ -72,23 +77,19 @@ pub fn written(to: Stdout, line: &[u8]) -> io::Result<()> {
     say::check(to, line, written_answer(came), &lent, say::FILL)
 }
 
-fn read_answer(answer: InitAnswer) -> Answer {
-    match answer {
-        InitAnswer::Read {
-            cipher,
-            count,
-            length,
-        } => said::four(
+fn read_answer(came: Result<InitMessage, InitRefusal>) -> Answer {
+    match came {
+        Ok(message) => said::four(
             said::CIPHER,
-            (cipher / 256) as u64,
-            (cipher % 256) as u64,
-            count as u64,
-            length as u64,
+            (message.cipher / 256) as u64,
+            (message.cipher % 256) as u64,
+            message.count as u64,
+            message.length as u64,
         ),
-        InitAnswer::Unfit => said::refused(3),
-        InitAnswer::Unreadable => said::refused(8),
-        InitAnswer::Incomplete => said::refused(9),
-        InitAnswer::NoCommonCipher => said::refused(10),
+        Err(InitRefusal::Unfit) => said::refused(3),
+        Err(InitRefusal::Unreadable) => said::refused(8),
+        Err(InitRefusal::Incomplete) => said::refused(9),
+        Err(InitRefusal::NoCommonCipher) => said::refused(10),
     }
 }
 
@@ -101,7 +102,7 @@ pub fn enabled(line: &[u8]) -> Enabled {
 }
 
 // Init2 where the line says which ciphers this end offered, else Init1.
-fn read_message(line: &[u8]) -> InitRead {
+fn read_message(line: &[u8]) -> Result<InitMessage, InitRefusal> {
     let tep = read::byte(line, word::TEP);
     let mut message = [0u8; 128];
     let n = read::list(line, word::BYTES, &mut message);
@@ -113,14 +114,15 @@ fn read_message(line: &[u8]) -> InitRead {
     init::init1_read(tep, enabled(line), text_words::first(&message, n))
 }
 
-// What is read: the nonce and the key, as its array has it, stand behind the colon.
+// What is read: the nonce and the key, as its array has it, stand behind the colon; zeros beside a refusal.
 pub fn told(to: Stdout, line: &[u8]) -> io::Result<()> {
-    let r = read_message(read::given(line));
-    let answer = r.answer;
-    let nonce = r.nonce;
-    let key = r.key;
+    let came = read_message(read::given(line));
     let mut given = [0u8; 88];
-    wire::copy(&mut given, 0, &nonce);
-    wire::copy(&mut given, 32, &key);
-    say::told(to, line, read_answer(answer), &given)
+    if let Ok(message) = came {
+        let nonce = message.nonce;
+        let key = message.key;
+        wire::copy(&mut given, 0, &nonce);
+        wire::copy(&mut given, 32, &key);
+    }
+    say::told(to, line, read_answer(came), &given)
 }

@@ -1,7 +1,7 @@
 // Lines that write and read plaintexts, up to 70,000 bytes.
 use crate::said::Answer;
 use crate::{read, said, say, word};
-use frame::{PlaintextRead, PlaintextWritten};
+use frame::{Plaintext, PlaintextWriteRefusal, TooShort};
 use std::io;
 use std::io::Stdout;
 
@@ -19,21 +19,16 @@ fn count_up(s: &mut [u8]) {
     }
 }
 
-fn read_answer(came: PlaintextRead) -> Answer {
+fn read_answer(came: Result<Plaintext, TooShort>) -> Answer {
     match came {
-        PlaintextRead::Plaintext {
-            fin,
-            urg,
-            urgent,
-            data_at,
-        } => said::four(
+        Ok(plaintext) => said::four(
             said::PLAINTEXT,
-            said::flag(fin),
-            said::flag(urg),
-            urgent as u64,
-            data_at as u64,
+            said::flag(plaintext.fin),
+            said::flag(plaintext.urg),
+            plaintext.urgent as u64,
+            plaintext.data_at as u64,
         ),
-        PlaintextRead::Short => said::refused(12),
+        Err(TooShort) => said::refused(12),
     }
 }
 
@@ -53,14 +48,14 @@ fn behind_wrote(n: usize, read: Answer) -> Answer {
 }
 
 // A plaintext that was written is read back.
-fn written_answer(came: PlaintextWritten, lent: &[u8]) -> Answer {
+fn written_answer(came: Result<usize, PlaintextWriteRefusal>, lent: &[u8]) -> Answer {
     match came {
-        PlaintextWritten::Wrote(n) => {
+        Ok(n) => {
             let back = frame::read_plaintext(text_words::first(lent, n));
             behind_wrote(n, read_answer(back))
         }
-        PlaintextWritten::NoRoom => said::refused(5),
-        PlaintextWritten::TooLong => said::refused(11),
+        Err(PlaintextWriteRefusal::NoRoom) => said::refused(5),
+        Err(PlaintextWriteRefusal::TooLong) => said::refused(11),
     }
 }
 
@@ -75,7 +70,7 @@ fn expect(line: &[u8], data: &[u8], out: &mut [u8]) {
     wire::copy(out, n, data);
 }
 
-fn write(line: &[u8], data: &[u8], lent: &mut [u8]) -> PlaintextWritten {
+fn write(line: &[u8], data: &[u8], lent: &mut [u8]) -> Result<usize, PlaintextWriteRefusal> {
     let fin = read::flag(line, word::FIN);
     let urg = read::flag(line, word::URG);
     let urgent = read::at_most(line, word::URGENT, 65535) as u16;

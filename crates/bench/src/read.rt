@@ -1,8 +1,6 @@
 // The words, numbers and bytes of a line.
 ghost use Rattle.std.specs.Prelude.{◌≤◌};
 
-use text_words::{Number, Octet};
-
 // What `token` says of two dots, and of anything that is no byte.
 const DOTS: u16 = 256;
 
@@ -40,22 +38,14 @@ fn behind(s: &[u8], word: u32) -> &[u8] {
 
 // The number behind a word; 0 where it does not stand.
 pub fn number(s: &[u8], word: u32) -> u64 {
-    let said = text_words::number_said(text_words::word(behind(s, word), 1));
-    match said {
-        Number::Said(n) => n,
-        Number::Wrong => 0,
-    }
+    text_words::number_said(text_words::word(behind(s, word), 1)).unwrap_or(0)
 }
 
 // The number behind a word, or the most that may be.
 pub fn at_most(s: &[u8], word: u32, most: usize) -> usize
     ensures { result ≤ most }
 {
-    let n = number(s, word) as usize;
-    if most < n {
-        return most;
-    }
-    n
+    (number(s, word) as usize).min(most)
 }
 
 // The number behind a word, or 255.
@@ -70,11 +60,7 @@ pub fn flag(s: &[u8], word: u32) -> bool {
 
 // The byte that two hex digits say.
 fn pair(high: u8, low: u8) -> u16 {
-    let said = text_words::byte_said(high, low);
-    match said {
-        Octet::Said(byte) => byte as u16,
-        Octet::Wrong => NONE,
-    }
+    text_words::byte_said(high, low).map_or(NONE, u16::from)
 }
 
 // What stands at a place: a blank, and a byte in hex or two dots.

@@ -30,7 +30,7 @@ fn unit_line(
         return unit_calls::made(to, marks, rows, doors, line);
     }
     name(to, line)?;
-    link_unit::erase(marks, rows, doors);
+    let _ = link_unit::erase(marks, rows, doors);
     Ok(())
 }
 
@@ -41,7 +41,7 @@ pub fn unit_table(to: Stdout, table: &[u8]) -> io::Result<()> {
     let mut rows = [row; ROWS];
     let door = [0u8; PLACE];
     let mut doors = [door; DOORS];
-    link_unit::erase(&mut marks, &mut rows, &mut doors);
+    let _ = link_unit::erase(&mut marks, &mut rows, &mut doors);
     let mut at = 0;
     while at < table.len() {
         let end = text_words::place_of(table, at, b'\n');

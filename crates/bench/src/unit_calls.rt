@@ -17,19 +17,6 @@ fn wide(x: u8) -> u64 {
     x as u64
 }
 
-fn refusal_number(why: Refusal) -> u64 {
-    match why {
-        Refusal::NoDoor => 1,
-        Refusal::AreaTooLong => 2,
-        Refusal::Unfit => 3,
-        Refusal::OutOfTurn => 4,
-        Refusal::NoRoom => 5,
-        Refusal::Full => 6,
-        Refusal::AlreadyHeld => 7,
-        Refusal::NotHeld => 16,
-    }
-}
-
 fn phase_form(phase: Phase) -> usize {
     match phase {
         Phase::Idle => said::IDLE,
@@ -56,20 +43,22 @@ fn plain_answer(cause: Cause) -> Answer {
     said::four(said::UNREADABLE, 1, wide(cause.place), wide(cause.kind), 0)
 }
 
-fn answer_of(reply: Reply) -> Answer {
-    match reply {
-        Reply::Refused(why) => said::refused(refusal_number(why)),
-        Reply::Written(n) => said::one(said::WROTE, n as u64),
-        Reply::Plain(cause) => plain_answer(cause),
-        Reply::Now(phase) => said::plain(phase_form(phase)),
-        Reply::Encrypted {
-            role,
-            tep,
-            resumed,
-            length,
-        } => said::four(way_form(resumed), wide(role), wide(tep), length as u64, 0),
-        Reply::Done => said::plain(said::DONE),
-        Reply::Holds(n) => said::one(said::HOLDS, n as u64),
+fn answer_of(told: Result<Reply, Refusal>) -> Answer {
+    match told {
+        Err(why) => said::refused(u64::from(why.number())),
+        Ok(Reply::Written(n)) => said::one(said::WROTE, n as u64),
+        Ok(Reply::Plain(cause)) => plain_answer(cause),
+        Ok(Reply::Now(phase)) => said::plain(phase_form(phase)),
+        Ok(
+            Reply::Encrypted {
+                role,
+                tep,
+                resumed,
+                length,
+            },
+        ) => said::four(way_form(resumed), wide(role), wide(tep), length as u64, 0),
+        Ok(Reply::Done) => said::plain(said::DONE),
+        Ok(Reply::Holds(n)) => said::one(said::HOLDS, n as u64),
     }
 }
 
@@ -91,7 +80,7 @@ fn offer(
     door: usize,
     line: &[u8],
     lent: &mut [u8],
-) -> Reply {
+) -> Result<Reply, Refusal> {
     let b = read::small(line, word::ROLE);
     let mandatory = read::has(line, word::MANDATORY);
     let aware = is_aware(line, mandatory);
@@ -121,7 +110,7 @@ fn answer(
     door: usize,
     line: &[u8],
     lent: &mut [u8],
-) -> Reply {
+) -> Result<Reply, Refusal> {
     let mut area = [0u8; ROOM];
     let long = read::list(line, word::AREA, &mut area);
     let aware = read::has(line, word::MANDATORY);
@@ -147,7 +136,7 @@ fn receive(
     doors: &mut [[u8; PLACE]; DOORS],
     door: usize,
     line: &[u8],
-) -> Reply {
+) -> Result<Reply, Refusal> {
     let mut area = [0u8; ROOM];
     let n = read::list(line, word::AREA, &mut area);
     let syn = !read::has(line, word::ACK);
@@ -194,12 +183,14 @@ fn result(
     doors: &[[u8; PLACE]; DOORS],
     door: usize,
     lent: &mut [u8],
-) -> io::Result<Reply> {
-    let told = link_unit::result(marks, rows, doors, door, lent);
-    let reply = told.reply;
-    let secret = told.secret;
-    secret_told(to, secret, secret_of(reply))?;
-    Ok(reply)
+) -> io::Result<Result<Reply, Refusal>> {
+    match link_unit::result(marks, rows, doors, door, lent) {
+        Ok(told) => {
+            secret_told(to, told.secret, secret_of(told.reply))?;
+            Ok(Ok(told.reply))
+        }
+        Err(refusal) => Ok(Err(refusal)),
+    }
 }
 
 fn store(
@@ -208,7 +199,7 @@ fn store(
     doors: &mut [[u8; PLACE]; DOORS],
     door: usize,
     line: &[u8],
-) -> Reply {
+) -> Result<Reply, Refusal> {
     let tep = read::byte(line, word::TEP);
     let b = read::small(line, word::ROLE);
     let mut identifier = [0u8; ROOM];
@@ -232,7 +223,7 @@ fn forget(
     doors: &mut [[u8; PLACE]; DOORS],
     door: usize,
     line: &[u8],
-) -> Reply {
+) -> Result<Reply, Refusal> {
     let tep = read::byte(line, word::TEP);
     let mut identifier = [0u8; ROOM];
     let n = read::list(line, word::IDENTIFIER, &mut identifier);
@@ -252,7 +243,7 @@ fn record_call(
     doors: &mut [[u8; PLACE]; DOORS],
     door: usize,
     line: &[u8],
-) -> Reply {
+) -> Result<Reply, Refusal> {
     if read::has(line, word::STORE) {
         return store(marks, rows, doors, door, line);
     }
@@ -278,7 +269,7 @@ fn call(
     doors: &mut [[u8; PLACE]; DOORS],
     line: &[u8],
     lent: &mut [u8],
-) -> io::Result<Reply> {
+) -> io::Result<Result<Reply, Refusal>> {
     let door = door_of(line);
     if read::has(line, word::OFFER) {
         return Ok(offer(marks, rows, doors, door, line, lent));

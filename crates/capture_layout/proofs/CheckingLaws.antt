@@ -1,5 +1,5 @@
 -- What the checker's first three tests tell of a file where none of them holds, and laws of tests over handshakes. Assumes nothing.
-use Rattle.std.specs.Prelude.{ℕ, zero, suc, ◌+◌, ◌*◌, ◌≤◌, ◌<◌, ◌≡◌, refl, List, [], ◌∷◌, Bool, true, false, ◌&&◌, ◌||◌, ltb, length}
+use Rattle.std.specs.Prelude.{ℕ, zero, suc, ◌+◌, ◌≤◌, ◌<◌, ◌≡◌, refl, List, [], ◌∷◌, Bool, true, false, ◌||◌, ltb, length}
 use Rattle.std.proofs.Common.{sym, ◌∙◌, ap, ap₂, arith, ltb-false, eqb-true, lt-ltb, le-leb}
 use Rattle.std.proofs.lemmas.Bool.{false≢true, not-false}
 use Rattle.std.proofs.Math.Option.{none}

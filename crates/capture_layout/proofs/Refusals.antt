@@ -1,5 +1,5 @@
 -- A capture is refused with n exactly when n is the least number that applies: of 18 to 20 first, then of the others. Assumes nothing.
-use Rattle.std.specs.Prelude.{ℕ, zero, suc, ◌+◌, ◌*◌, ◌/◌, ◌%◌, ◌≤◌, ◌<◌, ◌≡◌, refl, List, [], ◌∷◌, Bool, true, false, cond, not, ◌&&◌, ◌||◌, ◌↔◌, leb, eqb, length}
+use Rattle.std.specs.Prelude.{ℕ, zero, suc, ◌+◌, ◌*◌, ◌≤◌, ◌<◌, ◌≡◌, refl, List, [], ◌∷◌, Bool, true, false, cond, not, ◌&&◌, ◌||◌, ◌↔◌, leb, eqb, length}
 use Rattle.std.proofs.Common.{sym, ◌∙◌, ap, true≢false, add-zero, add-one, eq-eqb, eqb-true, lt-ltb, le-ltb, le-leb}
 use Rattle.std.proofs.Math.Path.{ap₂}
 use Rattle.std.proofs.lemmas.Bool.{lt-leb}

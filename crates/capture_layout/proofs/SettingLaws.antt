@@ -1,5 +1,5 @@
 -- A setting means its layout, both ways: bytes are read as a setting exactly where they are the setting's encoding. Assumes nothing.
-use Rattle.std.specs.Prelude.{ℕ, zero, suc, ◌+◌, ◌*◌, ◌/◌, ◌%◌, ◌≤◌, ◌<◌, ◌≡◌, refl, List, [], ◌∷◌, ◌++◌, Bool, true, false, cond, ◌&&◌, ◌↔◌, ltb, leb, eqb, get_or, drop}
+use Rattle.std.specs.Prelude.{ℕ, zero, suc, ◌+◌, ◌/◌, ◌%◌, ◌≤◌, ◌<◌, ◌≡◌, refl, List, [], ◌∷◌, ◌++◌, Bool, true, false, cond, ◌&&◌, ◌↔◌, ltb, leb, eqb, get_or, drop}
 use Rattle.std.proofs.Common.{sym, ◌∙◌, subst, append-nil, add-zero, mod-lt, lit<, length-drop, take-append-drop, take_all, take_at, drop_at, get_or-append-add, drop-cons, drop-drop, length-take-le}
 use Rattle.std.proofs.Math.Path.{ap}
 use Rattle.std.proofs.lemmas.Bool.{false≢true}

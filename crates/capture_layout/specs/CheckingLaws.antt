@@ -1,6 +1,5 @@
 -- What the checker's first three tests tell of a file where none of them holds, and laws of tests over handshakes. Assumes nothing.
-use Rattle.std.specs.Prelude.{ℕ, ◌+◌, ◌*◌, ◌≤◌, ◌<◌, ◌≡◌, List, ◌∷◌, ◌&&◌, ◌||◌, length}
-use Rattle.std.proofs.Common.{◌∙◌}
+use Rattle.std.specs.Prelude.{ℕ, ◌≤◌, ◌<◌, ◌≡◌, List, length}
 use Rattle.capture_layout.specs.Layout.{most_file, most_handshakes, contents_size, count_in, place_in, end_in}
 use Rattle.capture_layout.specs.Checking.{end_before, expected}
 

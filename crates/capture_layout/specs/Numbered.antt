@@ -1,5 +1,5 @@
 -- Numbers given back for captures: document 02's 18 to 21, with 1, 2 and 5, each in the row's words. Checker and writer are defined without them.
-use Rattle.std.specs.Prelude.{ℕ, zero, suc, ◌+◌, ◌*◌, ◌/◌, ◌%◌, List, [], ◌∷◌, ◌≡◌, Bool, true, false, not, ◌&&◌, ◌||◌, ltb, leb, eqb, length}
+use Rattle.std.specs.Prelude.{ℕ, zero, suc, ◌+◌, ◌*◌, ◌/◌, ◌%◌, List, [], ◌∷◌, ◌≡◌, Bool, true, false, not, ◌&&◌, ◌||◌, ltb, eqb, length}
 use Rattle.std.proofs.Math.Option.{Option, none, some}
 use Rattle.refusals.specs.Rows.{marked, Least}
 use Rattle.unit.specs.Numbers.{doors_n}
@@ -9,7 +9,7 @@ use Rattle.eno.specs.Area.{Finding, refused, unreadable, missing, found, finding
 use Rattle.eno.specs.Suboption.{Suboption, suboptions, role_bit, aware_bit}
 use Rattle.eno.specs.declared.SessionRecord.{SessionRecord}
 use Rattle.door.specs.Numbered.{bad_list}
-use Rattle.capture_layout.specs.Layout.{Handshake, count_in, place_in, length_in, handshakes_in}
+use Rattle.capture_layout.specs.Layout.{Handshake, count_in, place_in, length_in}
 use Rattle.capture_layout.specs.Setting.{SettingValue, setting_of, bit_with}
 use Rattle.capture_layout.specs.Writing.{length_at, staged}
 

@@ -2,26 +2,16 @@
 #![tactic(auto)]
 
 ghost use Rattle.std.specs.Prelude.{◌≡◌, []};
-ghost use Rattle.door.specs.Outcome.{keep};
+ghost use Rattle.door.specs.Outcome.{done, keep};
 ghost use Rattle.door.specs.Receive.{close};
-ghost use Rattle.door.specs.Answers.{reply_of, outcome_as};
+ghost use Rattle.door.specs.Answers.{outcome_as};
 
-use door::{Door, Reply};
+use door::Door;
 
-// The door that is closed, and what close replies.
-#[derive(Clone, Copy)]
-pub struct Closed {
-    pub door: Door,
-    pub reply: Reply,
-}
-
-// In any phase: Idle.
-pub fn close() -> Closed
-    ensures { outcome_as (reply_of result.reply []) [] result.door keep ≡ close }
+// The door that is closed, in any phase: Idle.
+#[tactic(auto, unfolding(door::specs::Receive::close))]
+pub fn close() -> Door
+    ensures { outcome_as done [] result keep ≡ close }
 {
-    let door = door_values::idle_door();
-    Closed {
-        door,
-        reply: Reply::Done,
-    }
+    door_values::idle_door()
 }

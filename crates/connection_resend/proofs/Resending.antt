@@ -1,11 +1,11 @@
 -- What resend comes to, by the tests of the code.
-use Prim.Native.Nat.{ℕ, ◌-◌, ◌≤◌, ◌<◌, min}
+use Prim.Native.Nat.{ℕ, ◌≤◌, ◌<◌}
 use mathlib.Core.Path.{◌≡◌, sym, ◌∙◌, ap}
 use mathlib.Core.List.{List}
 use mathlib.Core.Bool.{Bool, true, false, cond, not}
 use borrow.Author.Tests.{lt-ltb, le-ltb}
 use lib.Dec.{ltb}
-use lib.ListN.{length, take, drop}
+use lib.ListN.{length}
 use Rattle.wire.specs.Bytes.{pasted}
 use Rattle.door.specs.Door.{phase_of, own_option}
 use Rattle.door.specs.Outcome.{refused, written, keep}
@@ -13,7 +13,6 @@ use Rattle.door.specs.Receive.{may_send, resend}
 use Rattle.door.specs.Answers.{phase_as, outcome_as}
 use Rattle.door.specs.declared.Door.{Door}
 use Rattle.door.specs.declared.Phase.{Phase}
-use Rattle.door_data.specs.Laws.{own_stored, own_long}
 use Rattle.door_data.specs.Tests.{two_tests}
 
 -- resend
@@ -30,12 +29,11 @@ module _ (d : Door) (s : List ℕ) (p : Phase) (ep : phase_as p ≡ phase_of d.p
   pub resend_out : b ≡ false → outcome_as (refused 4) s d keep ≡ resend d s
   resend_out e = sym (resend_by ∙ simp e)
 
-  module _ (may : b ≡ true) (forty : length d.own ≡ 40) (n : ℕ) (en : n ≡ min d.own_length 40) where
-    pub resend_short : length s < n → outcome_as (refused 5) s d keep ≡ resend d s
-    resend_short h = let l = own_long d n forty en in sym (resend_by ∙ simp (may, l, lt-ltb _ _ h))
+  module _ (may : b ≡ true) (o : List ℕ) (eo : o ≡ own_option d) where
+    pub resend_short : length s < length o → outcome_as (refused 5) s d keep ≡ resend d s
+    resend_short h = sym (resend_by ∙ simp (may, sym eo, lt-ltb _ _ h))
 
-    pub resend_written : n ≤ length s → (t : List ℕ) → t ≡ pasted s 0 (take (n - 0) (drop 0 d.own)) → outcome_as (written n) t d keep ≡ resend d s
+    pub resend_written : length o ≤ length s → (t : List ℕ) → t ≡ pasted s 0 o → outcome_as (written (length o)) t d keep ≡ resend d s
     resend_written h t e =
-        let l = own_long d n forty en in
-        ap (λ x. outcome_as (written n) x d keep) (e ∙ ap (pasted s 0) (own_stored d n en))
-        ∙ sym (resend_by ∙ simp (may, l, le-ltb _ _ h))
+        ap (λ x. outcome_as (written (length o)) x d keep) e
+        ∙ sym (resend_by ∙ simp (may, sym eo, le-ltb _ _ h))

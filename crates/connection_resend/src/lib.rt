@@ -11,29 +11,20 @@ use door::{Door, Phase, Refusal, Reply};
 fn may_send(phase: Phase) -> bool
     ensures { result ≡ may_send (phase_as phase) }
 {
-    match phase {
-        Phase::Idle => false,
-        Phase::Offered => true,
-        Phase::Crossed => true,
-        Phase::Answered => true,
-        Phase::Open => false,
-        Phase::Plain => false,
-    }
+    matches!(phase, Phase::Offered | Phase::Crossed | Phase::Answered)
 }
 
 // Writes the option that this door sent once more.
-pub fn resend(door: Door, out: &mut [u8]) -> Reply
+pub fn resend(door: Door, out: &mut [u8]) -> Result<Reply, Refusal>
     ensures { outcome_as (reply_of result []) out.new door keep ≡ resend door out.old }
 {
-    let phase = door_data::phase_of(door.phase);
-    if may_send(phase) {
-        let own = door.own;
-        let n = door_data::kept_length(door.own_length);
-        if out.len() < n {
-            return Reply::Refused(Refusal::NoRoom);
-        }
-        wire::copy(out, 0, &own[0..n]);
-        return Reply::Written(n);
+    if !may_send(door_data::phase_of(door.phase)) {
+        return Err(Refusal::OutOfTurn);
     }
-    Reply::Refused(Refusal::OutOfTurn)
+    let own = &door.own[..door_data::kept_length(door.own_length)];
+    if out.len() < own.len() {
+        return Err(Refusal::NoRoom);
+    }
+    wire::copy(out, 0, own);
+    Ok(Reply::Written(own.len()))
 }

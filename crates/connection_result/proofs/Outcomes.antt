@@ -1,12 +1,12 @@
 -- What result comes to, by the tests of the code.
-use Prim.Native.Nat.{ℕ, ◌+◌, ◌-◌, ◌≤◌, ◌<◌, min}
+use Prim.Native.Nat.{ℕ, ◌+◌, ◌≤◌, ◌<◌}
 use mathlib.Core.Path.{◌≡◌, refl, sym, ◌∙◌, ap, ap₂}
 use mathlib.Core.List.{List, ◌++◌}
 use mathlib.Core.Bool.{Bool, true, false, cond, ◌||◌}
 use native.Mathlib.Omega.{arith}
 use borrow.Author.Tests.{lt-ltb, le-ltb}
 use lib.Dec.{ltb, eqb}
-use lib.ListN.{length, take, drop, replicate, length-append}
+use lib.ListN.{length, replicate, length-append}
 use Rattle.wire.specs.Bytes.{pasted}
 use Rattle.wire.specs.ByteLaws.{pasted_twice}
 use Rattle.eno.specs.Judge.{of_a, of_b, way_if}
@@ -17,7 +17,6 @@ use Rattle.door.specs.Answers.{phase_as, outcome_as, secret_beside}
 use Rattle.door.specs.declared.Door.{Door}
 use Rattle.door.specs.declared.Phase.{Phase}
 use Rattle.door.specs.declared.Phase.TheVariants as phase
-use Rattle.door_data.specs.Laws.{own_stored, peer_stored, own_long, peer_long}
 use Rattle.door_data.specs.Tests.{two_tests}
 
 -- A's option, then B's
@@ -58,28 +57,28 @@ module _ (d : Door) (s : List ℕ) where
   unfolding result
   open_by e = rw e (two_tests _ _ _ _ _ _ _)
 
-  module _ (at : phase_of d.phase ≡ opened) (forty : length d.own ≡ 40) (forty-too : length d.peer ≡ 40)
-      (n m : ℕ) (en : n ≡ min d.own_length 40) (em : m ≡ min d.peer_length 40) where
-    both_long : length (transcript_of d) ≡ n + m
+  -- o is what counts of this end's own option, p of the other side's
+  module _ (at : phase_of d.phase ≡ opened) (o p : List ℕ) (eo : o ≡ own_option d) (ep : p ≡ peer_option d) where
+    both_long : length (transcript_of d) ≡ length o + length p
     unfolding transcript_of of_a of_b
     both_long = length-append (of_a (eqb d.role 1) (own_option d) (peer_option d)) (of_b (eqb d.role 1) (own_option d) (peer_option d)) ∙ go (eqb d.role 1)
       where
-        go : (c : Bool) → length (of_a c (own_option d) (peer_option d)) + length (of_b c (own_option d) (peer_option d)) ≡ n + m
-        go true = let x = own_long d n forty en in let y = peer_long d m forty-too em in omega arith
-        go false = let x = own_long d n forty en in let y = peer_long d m forty-too em in omega arith
+        go : (c : Bool) → length (of_a c (own_option d) (peer_option d)) + length (of_b c (own_option d) (peer_option d)) ≡ length o + length p
+        go true = let x = ap length eo in let y = ap length ep in omega arith
+        go false = let x = ap length eo in let y = ap length ep in omega arith
 
-    pub open_short : length s < n + m → Told (outcome_as (refused 5) s d keep) (replicate 32 0)
+    pub open_short : length s < length o + length p → Told (outcome_as (refused 5) s d keep) (replicate 32 0)
     open_short h = told_by _ (outcome_as (refused 5) s d keep) _ refl (open_by at ∙ simp (both_long, lt-ltb _ _ h)) refl
 
-    pub open_told : n + m ≤ length s → (t : List ℕ)
-        → t ≡ pasted s 0 (of_a (eqb d.role 1) (take (n - 0) (drop 0 d.own)) (take (m - 0) (drop 0 d.peer)) ++ of_b (eqb d.role 1) (take (n - 0) (drop 0 d.own)) (take (m - 0) (drop 0 d.peer)))
+    pub open_told : length o + length p ≤ length s → (t : List ℕ)
+        → t ≡ pasted s 0 (of_a (eqb d.role 1) o p ++ of_b (eqb d.role 1) o p)
         → (secret : List ℕ) → secret ≡ cond d.resumed d.hand.session.secret (replicate 32 0)
-        → Told (outcome_as (encrypted d.role d.tep (way_if d.resumed) (n + m) secret) t d keep) secret
+        → Told (outcome_as (encrypted d.role d.tep (way_if d.resumed) (length o + length p) secret) t d keep) secret
     unfolding transcript_of secret_of
     open_told h t et secret es =
         told_by _ open_outcome _
-        (ap₂ (λ x y. outcome_as (encrypted d.role d.tep (way_if d.resumed) (n + m) x) y d keep) es
-        (et ∙ ap₂ (λ x y. pasted s 0 (of_a (eqb d.role 1) x y ++ of_b (eqb d.role 1) x y)) (own_stored d n en) (peer_stored d m em))
+        (ap₂ (λ x y. outcome_as (encrypted d.role d.tep (way_if d.resumed) (length o + length p) x) y d keep) es
+        (et ∙ ap₂ (λ x y. pasted s 0 (of_a (eqb d.role 1) x y ++ of_b (eqb d.role 1) x y)) eo ep)
         ∙ ap (λ k. outcome_as (encrypted d.role d.tep (way_if d.resumed) k (secret_of d)) (pasted s 0 (transcript_of d)) d keep) (sym both_long))
         (open_by at ∙ simp (both_long, le-ltb _ _ h))
         es

@@ -1,74 +1,70 @@
 // The generation record that the console lends: each step is made with the words of its line, and its reply's words are put with the record afterwards.
-use crate::text::{and_numbers, bit, put, put_counted, put_numbers, refuse};
-use crate::words::{flag, short};
+use crate::text::Line;
+use crate::words::Said;
 use answer_numbers::by_generation;
-use generation::{GenerationRecord, GenerationReply, GenerationStep};
-
-// The record after a call, and where the reply's words end.
-#[derive(Clone, Copy)]
-pub struct Called {
-    pub record: GenerationRecord,
-    pub end: usize,
-}
+use generation::{GenerationRecord, GenerationRefusal, GenerationReply, GenerationStep};
 
 // A record stands last in its line.
-fn and_record(out: &mut [u8], at: usize, record: GenerationRecord) -> usize {
-    let numbers = [
-        record.local as u64,
-        record.remote as u64,
-        record.last as u64,
-        bit(record.fin),
-    ];
-    and_numbers(out, at, &numbers)
+fn put_record(line: &mut Line, record: &GenerationRecord) {
+    line.numbers(&[
+        u64::from(record.local),
+        u64::from(record.remote),
+        u64::from(record.last),
+        u64::from(record.fin),
+    ]);
 }
 
-fn put_answer(out: &mut [u8], answer: GenerationReply) -> usize {
+fn put_answer(line: &mut Line, answer: Result<GenerationReply, GenerationRefusal>) {
     match answer {
-        GenerationReply::Sent { generation, rekey } => {
-            let numbers = [generation as u64, bit(rekey)];
-            put_numbers(out, b"sent", &numbers)
+        Ok(GenerationReply::Sent { generation, rekey }) => {
+            line.put(b"sent");
+            line.numbers(&[u64::from(generation), u64::from(rekey)]);
         }
-        GenerationReply::Received(generation) => put_counted(out, b"took", generation as u64),
-        _ => refuse(out, by_generation(answer)),
+        Ok(GenerationReply::Received(generation)) => line.counted(b"took", u64::from(generation)),
+        Err(_) => line.refuse(by_generation(answer)),
     }
 }
 
-// Puts what a step answers.
-fn answered(out: &mut [u8], step: GenerationStep) -> Called {
-    let answer = step.reply;
-    let record = step.next;
-    let at = put_answer(out, answer);
-    let end = and_record(out, at, record);
-    Called { record, end }
+// Puts what a step on a record answers; a refusal leaves the record as it was.
+fn answered(
+    record: &mut GenerationRecord,
+    step: Result<GenerationStep, GenerationRefusal>,
+    line: &mut Line,
+) {
+    if let Ok(made) = step {
+        *record = made.next;
+    }
+    put_answer(line, step.map(|made| made.reply));
+    put_record(line, record);
 }
 
-fn lend(words: &[u64], out: &mut [u8]) -> Called {
-    let record = GenerationRecord {
-        local: short(words, 0),
-        remote: short(words, 1),
-        last: short(words, 2),
-        fin: flag(words, 3),
+pub fn lend(record: &mut GenerationRecord, said: &Said, line: &mut Line) {
+    *record = GenerationRecord {
+        local: said.short(0),
+        remote: said.short(1),
+        last: said.short(2),
+        fin: said.flag(3),
     };
-    let at = put(out, 0, b"generation");
-    let end = and_record(out, at, record);
-    Called { record, end }
+    line.put(b"generation");
+    put_record(line, record);
 }
 
-fn owed(record: GenerationRecord, out: &mut [u8]) -> Called {
-    let end = put_counted(out, b"owed", bit(generation_record::is_owed(record)));
-    Called { record, end }
+pub fn send(record: &mut GenerationRecord, said: &Said, line: &mut Line) {
+    let step = generation_send::send(*record, said.flag(0));
+    answered(record, step, line);
 }
 
-// Makes a step and puts its reply's words. No other number is a form of these.
-pub fn call(record: GenerationRecord, form: usize, words: &[u64], out: &mut [u8]) -> Called {
-    match form {
-        20 => lend(words, out),
-        21 => answered(out, generation_send::send(record, flag(words, 0))),
-        22 => answered(
-            out,
-            generation_initiate::initiate(record, flag(words, 0), flag(words, 1)),
-        ),
-        23 => answered(out, generation_receive::receive(record, flag(words, 0))),
-        _ => owed(record, out),
-    }
+pub fn initiate(record: &mut GenerationRecord, said: &Said, line: &mut Line) {
+    let step = generation_initiate::initiate(*record, said.flag(0), said.flag(1));
+    answered(record, step, line);
+}
+
+pub fn take(record: &mut GenerationRecord, said: &Said, line: &mut Line) {
+    let step = generation_receive::receive(*record, said.flag(0));
+    answered(record, step, line);
+}
+
+pub fn owed(record: &GenerationRecord, line: &mut Line) {
+    let owed = generation_record::is_owed(*record);
+    line.counted(b"owed", u64::from(owed));
 }

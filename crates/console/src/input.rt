@@ -4,8 +4,8 @@ use std::io;
 use std::io::Read;
 use text_lines::{Collected, collect};
 
-// Where reading stands.
-#[derive(Clone, Copy)]
+// Where reading stands. There is no heap here: the chunk and the line are lent beside these numbers, which say how much of each is used.
+#[derive(Clone, Copy, Default)]
 pub struct Place {
     // How much of the chunk was read, and how much of that is used.
     pub filled: usize,
@@ -16,17 +16,6 @@ pub struct Place {
     // Whether the line is whole, and whether the input is over.
     pub whole: bool,
     pub over: bool,
-}
-
-pub fn start() -> Place {
-    Place {
-        filled: 0,
-        used: 0,
-        length: 0,
-        long: false,
-        whole: false,
-        over: false,
-    }
 }
 
 // Where reading stands after a chunk's bytes were collected.
@@ -44,15 +33,13 @@ fn collected(chunk: &[u8], line: Collected) -> Place {
 // A line that is not whole yet, or a new one where the last is; no chunk is at hand.
 fn unfinished(at: Place) -> Place {
     if at.whole {
-        return start();
-    }
-    Place {
-        filled: 0,
-        used: 0,
-        length: at.length,
-        long: at.long,
-        whole: false,
-        over: false,
+        Place::default()
+    } else {
+        Place {
+            length: at.length,
+            long: at.long,
+            ..Place::default()
+        }
     }
 }
 
@@ -69,22 +56,16 @@ fn resume(chunk: &[u8], from: usize, line: &mut [u8], at: Place) -> Place {
 fn over(at: Place, counts: bool) -> Place {
     let last = unfinished(at);
     if counts {
-        return Place {
-            filled: 0,
-            used: 0,
-            length: last.length,
-            long: last.long,
+        Place {
             whole: 0 < last.length,
             over: true,
-        };
-    }
-    Place {
-        filled: 0,
-        used: 0,
-        length: 0,
-        long: false,
-        whole: false,
-        over: true,
+            ..last
+        }
+    } else {
+        Place {
+            over: true,
+            ..Place::default()
+        }
     }
 }
 

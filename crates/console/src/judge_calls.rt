@@ -1,7 +1,7 @@
 // The two judges: each is asked with the words of its line, and its reply's words are put.
-use crate::text::{and_hex, and_number, refuse};
+use crate::text::Line;
 use crate::unit_replies::{put_plain, put_role_and_tep, put_way};
-use crate::words::{flag, taken};
+use crate::words::Said;
 use eno::InHand;
 use judgement::{Judgement, Verdict};
 use link_unit::ROW;
@@ -12,40 +12,33 @@ fn hand_of(bytes: &[u8]) -> InHand {
     wire::copy(&mut row, 0, bytes);
     let session = unit_bytes::record_of(row);
     InHand {
-        held: 0 < bytes.len(),
+        held: !bytes.is_empty(),
         session,
     }
 }
 
-fn put_judgement(out: &mut [u8], told: Judgement) -> usize {
-    let verdict = told.verdict;
-    match verdict {
-        Verdict::Refused => refuse(out, 2),
-        Verdict::Plain(reason) => put_plain(out, judgement::cause_of(reason)),
+fn put_judgement(line: &mut Line, told: Judgement) {
+    match told.verdict {
+        Verdict::Refused => line.refuse(2),
+        Verdict::Plain(reason) => put_plain(line, judgement::cause_of(reason)),
         Verdict::Encrypted { role, tep, resumed } => {
-            let transcript = told.transcript;
-            let after_tep = put_role_and_tep(out, role, tep);
-            let after_way = put_way(out, after_tep, resumed);
-            let after_length = and_number(out, after_way, told.length as u64);
-            and_hex(
-                out,
-                after_length,
-                text_words::first(&transcript, told.length),
-            )
+            put_role_and_tep(line, role, tep);
+            put_way(line, resumed);
+            line.number(told.length as u64);
+            line.hex(text_words::first(&told.transcript, told.length));
         }
     }
 }
 
-pub fn judged(words: &[u64], bytes: &[u8], out: &mut [u8]) -> usize {
-    let hand = hand_of(taken(words, bytes, 1));
-    let own = taken(words, bytes, 2);
-    let told = judge::judge(own, taken(words, bytes, 3), flag(words, 0), hand);
-    put_judgement(out, told)
+// The two that follow differ in the judge alone, and have no more in common than the words that they take.
+pub fn judged(said: &Said, line: &mut Line) {
+    let hand = hand_of(said.taken(1));
+    let told = judge::judge(said.taken(2), said.taken(3), said.flag(0), hand);
+    put_judgement(line, told);
 }
 
-pub fn judged_plainly(words: &[u64], bytes: &[u8], out: &mut [u8]) -> usize {
-    let hand = hand_of(taken(words, bytes, 1));
-    let own = taken(words, bytes, 2);
-    let told = plain_judge::judge_plainly(own, taken(words, bytes, 3), flag(words, 0), hand);
-    put_judgement(out, told)
+pub fn judged_plainly(said: &Said, line: &mut Line) {
+    let hand = hand_of(said.taken(1));
+    let told = plain_judge::judge_plainly(said.taken(2), said.taken(3), said.flag(0), hand);
+    put_judgement(line, told);
 }

@@ -1,137 +1,103 @@
-// The finder, the judges, Init messages and frames: each call is made with the words of its line, by the number of its form, and its reply's words are put.
+// The finder, Init messages and frames: each call is made with the words of its line, and its reply's words are put.
 ghost use Rattle.std.specs.Prelude.{◌≤◌, length};
 
-use crate::text::{and_fault, and_hex, put, refuse};
-use crate::words::{Listed, enabled_in, flag, number, short, small, taken};
-use crate::{judge_calls, message_replies};
+use crate::message_replies;
+use crate::text::Line;
+use crate::words::{Said, enabled_in};
 use answer_numbers::by_finder;
 use finder::FindStatus;
 
 // A line's buffer of 10,000 bytes has at most this many ciphers.
 const CIPHERS: usize = 5000;
 
-// The ciphers that bytes list, two bytes each, and how many there are.
+// The ciphers that bytes list, two bytes each, and how many there are: there is no heap here, so that the caller lends the list.
 pub fn listed(bytes: &[u8], into: &mut [u16]) -> usize
     ensures { result ≤ length into.old }
 {
-    let count = bytes.len() / 2;
-    let mut i = 0;
-    while i < count {
-        if into.len() <= i {
-            return i;
-        }
-        let cipher = wire_numbers::read_u16(bytes, 2 * i);
-        into[i] = cipher;
-        i += 1;
+    let count = into.len().min(bytes.len() / 2);
+    for (place, cipher) in into.iter_mut().zip(bytes.chunks_exact(2)) {
+        *place = wire_numbers::read_u16(cipher, 0);
     }
-    i
+    count
 }
 
-fn found(out: &mut [u8], area: &[u8], syn: bool) -> usize {
+pub fn find(said: &Said, line: &mut Line) {
+    let syn = said.flag(0);
+    let area = said.taken(1);
     let status = finder::find_status(area, syn);
     match status {
         FindStatus::Found => {
-            let at = put(out, 0, b"found");
-            and_hex(out, at, finder::find_option(area, syn))
+            line.put(b"found");
+            line.hex(finder::find_option(area, syn));
         }
-        FindStatus::Nothing => put(out, 0, b"none"),
+        FindStatus::Nothing => line.put(b"none"),
         FindStatus::Unreadable { place, kind } => {
-            let at = put(out, 0, b"unreadable");
-            and_fault(out, at, place, kind)
+            line.put(b"unreadable");
+            line.fault(place, kind);
         }
-        FindStatus::Refused => refuse(out, by_finder(status)),
+        FindStatus::Refused => line.refuse(by_finder(status)),
     }
 }
 
-fn find(words: &[u64], bytes: &[u8], out: &mut [u8]) -> usize {
-    found(out, taken(words, bytes, 1), flag(words, 0))
-}
-
-fn init1_write(words: &[u64], bytes: &[u8], lent: &mut [u8], out: &mut [u8]) -> usize {
+pub fn init1_write(said: &Said, lent: &mut [u8], line: &mut Line) {
     let mut list = [0u16; CIPHERS];
-    let count = listed(taken(words, bytes, 1), &mut list);
-    let nonce = taken(words, bytes, 2);
-    let key = taken(words, bytes, 3);
-    let answer = init::init1_write(small(words, 0), &list[0..count], nonce, key, lent);
-    message_replies::init_written(out, answer)
+    let count = listed(said.taken(1), &mut list);
+    let nonce = said.taken(2);
+    let key = said.taken(3);
+    let answer = init::init1_write(said.small(0), &list[..count], nonce, key, lent);
+    message_replies::init_written(line, answer);
 }
 
-fn init1_read(words: &[u64], bytes: &[u8], out: &mut [u8]) -> usize {
-    let tep = small(words, 0);
-    let list = enabled_in(taken(words, bytes, 1));
-    let Listed::Known(enabled) = list else {
-        return 0;
+pub fn init1_read(said: &Said, line: &mut Line) {
+    let tep = said.small(0);
+    let Some(enabled) = enabled_in(said.taken(1)) else {
+        return;
     };
-    let read = init::init1_read(tep, enabled, taken(words, bytes, 2));
-    message_replies::init1_read(out, tep, read)
+    let answer = init::init1_read(tep, enabled, said.taken(2));
+    message_replies::init1_read(line, tep, answer);
 }
 
-fn init2_write(words: &[u64], bytes: &[u8], lent: &mut [u8], out: &mut [u8]) -> usize {
-    let cipher = wire_numbers::read_u16(taken(words, bytes, 1), 0);
-    let nonce = taken(words, bytes, 2);
-    let key = taken(words, bytes, 3);
-    let answer = init::init2_write(small(words, 0), cipher, nonce, key, lent);
-    message_replies::init_written(out, answer)
+pub fn init2_write(said: &Said, lent: &mut [u8], line: &mut Line) {
+    let cipher = wire_numbers::read_u16(said.taken(1), 0);
+    let nonce = said.taken(2);
+    let key = said.taken(3);
+    let answer = init::init2_write(said.small(0), cipher, nonce, key, lent);
+    message_replies::init_written(line, answer);
 }
 
-fn init2_read(words: &[u64], bytes: &[u8], out: &mut [u8]) -> usize {
-    let tep = small(words, 0);
+pub fn init2_read(said: &Said, line: &mut Line) {
+    let tep = said.small(0);
     let mut list = [0u16; CIPHERS];
-    let count = listed(taken(words, bytes, 1), &mut list);
-    let read = init::init2_read(tep, &list[0..count], taken(words, bytes, 2));
-    message_replies::init2_read(out, tep, read)
+    let count = listed(said.taken(1), &mut list);
+    let answer = init::init2_read(tep, &list[..count], said.taken(2));
+    message_replies::init2_read(line, tep, answer);
 }
 
-fn header_write(words: &[u64], lent: &mut [u8], out: &mut [u8]) -> usize {
-    let length = number(words, 1) as usize;
-    let answer = frame::write_header(flag(words, 0), length, number(words, 2), lent);
-    message_replies::header_written(out, answer)
+pub fn header_write(said: &Said, lent: &mut [u8], line: &mut Line) {
+    let length = said.number(1) as usize;
+    let answer = frame::write_header(said.flag(0), length, said.number(2), lent);
+    message_replies::header_written(line, answer);
 }
 
-fn header_read(words: &[u64], bytes: &[u8], out: &mut [u8]) -> usize {
-    let read = frame::read_header(taken(words, bytes, 1), number(words, 0));
-    message_replies::header_read(out, read)
+pub fn header_read(said: &Said, line: &mut Line) {
+    let read = frame::read_header(said.taken(1), said.number(0));
+    message_replies::header_read(line, read);
 }
 
-fn nonce(words: &[u64], bytes: &[u8], out: &mut [u8]) -> usize {
-    let offset = number(words, 0);
-    let made = frame::nonce(taken(words, bytes, 1), offset);
-    message_replies::nonce(out, offset, made)
+pub fn nonce(said: &Said, line: &mut Line) {
+    let offset = said.number(0);
+    let made = frame::nonce(said.taken(1), offset);
+    message_replies::nonce(line, offset, made);
 }
 
-fn plaintext_write(words: &[u64], bytes: &[u8], lent: &mut [u8], out: &mut [u8]) -> usize {
-    let payload = taken(words, bytes, 3);
-    let answer = frame::write_plaintext(
-        flag(words, 0),
-        flag(words, 1),
-        short(words, 2),
-        payload,
-        lent,
-    );
-    message_replies::plaintext_written(out, answer)
+pub fn plaintext_write(said: &Said, lent: &mut [u8], line: &mut Line) {
+    let payload = said.taken(3);
+    let answer = frame::write_plaintext(said.flag(0), said.flag(1), said.short(2), payload, lent);
+    message_replies::plaintext_written(line, answer);
 }
 
-fn plaintext_read(words: &[u64], bytes: &[u8], out: &mut [u8]) -> usize {
-    let whole = taken(words, bytes, 0);
+pub fn plaintext_read(said: &Said, line: &mut Line) {
+    let whole = said.taken(0);
     let read = frame::read_plaintext(whole);
-    message_replies::plaintext_read(out, read, whole)
-}
-
-// Makes a call and puts its reply's words. No other number is a form of these.
-pub fn call(form: usize, words: &[u64], bytes: &[u8], lent: &mut [u8], out: &mut [u8]) -> usize {
-    match form {
-        10 => find(words, bytes, out),
-        11 => init1_write(words, bytes, lent, out),
-        12 => init1_read(words, bytes, out),
-        13 => init2_write(words, bytes, lent, out),
-        14 => init2_read(words, bytes, out),
-        15 => header_write(words, lent, out),
-        16 => header_read(words, bytes, out),
-        17 => nonce(words, bytes, out),
-        18 => plaintext_write(words, bytes, lent, out),
-        19 => plaintext_read(words, bytes, out),
-        25 => judge_calls::judged(words, bytes, out),
-        26 => judge_calls::judged_plainly(words, bytes, out),
-        _ => 0,
-    }
+    message_replies::plaintext_read(line, read, whole);
 }

@@ -2,7 +2,7 @@
 ghost use Rattle.std.specs.Prelude.{◌≤◌, length, take, OnOk, IfOk};
 ghost use Rattle.std.specs.Io.KnownBytes.{Appends};
 
-use crate::text::put;
+use crate::text::Line;
 use std::io;
 use std::io::{ErrorKind, Write};
 use std::thread::yield_now;
@@ -35,9 +35,10 @@ fn write_part<W: Write>(to: &mut W, text: &[u8]) -> io::Result<usize>
         Ok(n) => Ok(n),
         Err(error) => {
             if may_repeat(&error) {
-                return Ok(0);
+                Ok(0)
+            } else {
+                Err(error)
             }
-            Err(error)
         }
     }
 }
@@ -47,48 +48,47 @@ pub fn write<W: Write>(to: &mut W, text: &[u8]) -> io::Result<()>
     ensures { OnOk result (Appends (W.contents to.old) (W.contents to.new) text.now) }
 {
     let mut done = 0;
-    let mut tries = TRIES;
-    while 0 < tries {
+    for _ in 0..TRIES {
         if text.len() <= done {
             return Ok(());
         }
-        tries -= 1;
         let more = write_part(to, &text[done..])?;
         done += more;
     }
     Err(io::Error::from(ErrorKind::TimedOut))
 }
 
-// Ends the line that stands in a buffer, up to a place, and writes it.
-pub fn finish<W: Write>(to: &mut W, out: &mut [u8], at: usize) -> io::Result<()> {
-    let end = put(out, at, b"\n");
-    write(to, text_words::first(out, end))
+// Ends a line, and writes it.
+pub fn finish<W: Write>(to: &mut W, line: &mut Line) -> io::Result<()> {
+    line.put(b"\n");
+    write(to, line.text())
 }
 
 // Where an error's text ends: std puts the system's number behind it, in brackets.
 fn reason_end(said: &[u8]) -> usize {
     let at = text_words::place_of(said, 0, b'(');
     if at < said.len() {
-        return at.saturating_sub(1);
+        at.saturating_sub(1)
+    } else {
+        at
     }
-    at
 }
 
 // Puts the text of an error, as the system has it.
-fn put_reason(out: &mut [u8], at: usize, error: &io::Error) -> usize {
+fn put_reason(line: &mut Line, error: &io::Error) {
     let mut text = [0u8; REASON];
     let mut room = &mut text[..];
     let _ = write!(room, "{error}");
     let left = room.len();
     let said = text_words::first(&text, REASON.saturating_sub(left));
-    put(out, at, text_words::first(said, reason_end(said)))
+    line.put(text_words::first(said, reason_end(said)));
 }
 
 // Says on standard error what failed, and why.
 pub fn failed(rt: HostRuntime, what: &[u8], error: &io::Error) {
-    let mut out = [0u8; 256];
-    let after_what = put(&mut out, 0, what);
-    let before_reason = put(&mut out, after_what, b": ");
-    let end = put_reason(&mut out, before_reason, error);
-    let _ = finish(&mut rt.stderr(), &mut out, end);
+    let mut line = Line::empty();
+    line.put(what);
+    line.put(b": ");
+    put_reason(&mut line, error);
+    let _ = finish(&mut rt.stderr(), &mut line);
 }

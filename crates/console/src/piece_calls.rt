@@ -1,78 +1,55 @@
-// The reader of messages in pieces that the console holds: each call is made with the words of its line, by the number of its form, and its reply is written.
+// The reader of messages in pieces that the console holds: each call is made with the words of its line, and its reply's words are put.
 use crate::message_calls::listed;
-use crate::words::{Listed, enabled_in, small, taken};
-use crate::{output, piece_replies};
-use std::io;
+use crate::piece_replies;
+use crate::text::Line;
+use crate::words::{Said, enabled_in};
 
 // As many ciphers as a line's bytes may list.
 const CIPHERS: usize = 5000;
 
-fn start_init1(words: &[u64], bytes: &[u8], numbers: &mut [u64], out: &mut [u8]) -> usize {
-    let list = enabled_in(taken(words, bytes, 1));
-    let Listed::Known(enabled) = list else {
-        return 0;
-    };
-    let answer = pieces::start_init1(small(words, 0), enabled, numbers);
-    piece_replies::started(out, answer)
+// The reader's memory.
+#[derive(Drop)]
+pub struct Reader {
+    numbers: [u64; 4],
+    gathered: [u8; 4608],
 }
 
-fn start_init2(
-    words: &[u64],
-    bytes: &[u8],
-    numbers: &mut [u64],
-    gathered: &mut [u8],
-    out: &mut [u8],
-) -> usize {
-    let mut list = [0u16; CIPHERS];
-    let count = listed(taken(words, bytes, 1), &mut list);
-    let answer = pieces::start_init2(small(words, 0), &list[0..count], numbers, gathered);
-    piece_replies::started(out, answer)
-}
-
-fn start_frames(numbers: &mut [u64], out: &mut [u8]) -> usize {
-    let answer = pieces::start_frames(numbers);
-    piece_replies::started(out, answer)
-}
-
-fn feed(
-    words: &[u64],
-    bytes: &[u8],
-    numbers: &mut [u64],
-    gathered: &mut [u8],
-    out: &mut [u8],
-) -> usize {
-    let fed = pieces::feed(numbers, gathered, taken(words, bytes, 0));
-    piece_replies::fed(out, fed, gathered)
-}
-
-// Makes a call and puts its reply's words. No other number is a form of these.
-fn call(
-    form: usize,
-    words: &[u64],
-    bytes: &[u8],
-    numbers: &mut [u64],
-    gathered: &mut [u8],
-    out: &mut [u8],
-) -> usize {
-    match form {
-        27 => start_init1(words, bytes, numbers, out),
-        28 => start_init2(words, bytes, numbers, gathered, out),
-        29 => start_frames(numbers, out),
-        _ => feed(words, bytes, numbers, gathered, out),
+impl Reader {
+    // Zeros read frames, from position 0.
+    pub fn of_frames() -> Reader {
+        Reader {
+            numbers: [0; 4],
+            gathered: [0; 4608],
+        }
     }
 }
 
-// Makes a call and writes its reply.
-pub fn run(
-    rt: HostRuntime,
-    form: usize,
-    words: &[u64],
-    bytes: &[u8],
-    numbers: &mut [u64],
-    gathered: &mut [u8],
-) -> io::Result<()> {
-    // The longest reply, an Init message's, has under 300 bytes.
-    let mut out = [0u8; 512];
-    let end = call(form, words, bytes, numbers, gathered, &mut out);
-    output::finish(&mut rt.stdout(), &mut out, end)
+pub fn start_init1(reader: &mut Reader, said: &Said, line: &mut Line) {
+    let Some(enabled) = enabled_in(said.taken(1)) else {
+        return;
+    };
+    let answer = pieces::start_init1(said.small(0), enabled, &mut reader.numbers);
+    piece_replies::started(line, answer);
+}
+
+pub fn start_init2(reader: &mut Reader, said: &Said, line: &mut Line) {
+    let mut list = [0u16; CIPHERS];
+    let count = listed(said.taken(1), &mut list);
+    let answer = pieces::start_init2(
+        said.small(0),
+        &list[..count],
+        &mut reader.numbers,
+        &mut reader.gathered,
+    );
+    piece_replies::started(line, answer);
+}
+
+pub fn start_frames(reader: &mut Reader, line: &mut Line) {
+    let answer = pieces::start_frames(&mut reader.numbers);
+    piece_replies::started(line, answer);
+}
+
+pub fn feed(reader: &mut Reader, said: &Said, line: &mut Line) {
+    let fed = pieces::feed(&mut reader.numbers, &mut reader.gathered, said.taken(0));
+    piece_replies::fed(line, fed, &reader.gathered);
 }

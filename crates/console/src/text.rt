@@ -1,74 +1,68 @@
-// Parts of buffers, and lines made in one: a word behind each space. What does not fit is left out; a reply always fits.
-ghost use Rattle.std.specs.Prelude.{◌≡◌, ◌≤◌, min, length};
+// A line that is written: a word behind each space. What does not fit is left out; a reply always fits.
+use text_words::{put_hex, put_number};
 
-// How many bytes the first n of s are.
-pub fn within(n: usize, s: &[u8]) -> usize
-    ensures { (result ≡ min n (length s.now)) × (result ≤ length s.now) }
-{
-    if s.len() < n {
-        return s.len();
+// A reply has at most one word without a bound of its own, a lent buffer or a part of the line's bytes: under 20,000 digits, as the line has. All its other words, the longest
+// being a nonce of 32 and a key of 56 bytes, stay under 200 bytes.
+const ROOM: usize = 24576;
+
+// There is no heap here: the bytes of a line stand in an array, and `end` says where they end.
+#[derive(Drop)]
+pub struct Line {
+    bytes: [u8; ROOM],
+    end: usize,
+}
+
+impl Line {
+    pub fn empty() -> Line {
+        Line {
+            bytes: [0; ROOM],
+            end: 0,
+        }
     }
-    n
-}
 
-pub fn put(out: &mut [u8], at: usize, text: &[u8]) -> usize {
-    text_words::put(out, at, text)
-}
-
-// A flag is written as a number.
-pub fn bit(flag: bool) -> u64 {
-    if flag {
-        return 1;
+    pub fn text(&self) -> &[u8] {
+        text_words::first(&self.bytes, self.end)
     }
-    0
-}
 
-// Each of these puts a space, then the word.
-pub fn and_number(out: &mut [u8], at: usize, n: u64) -> usize {
-    let next = put(out, at, b" ");
-    text_words::put_number(out, next, n)
-}
-
-pub fn and_numbers(out: &mut [u8], at: usize, numbers: &[u64]) -> usize {
-    let mut end = at;
-    let mut i = 0;
-    while i < numbers.len() {
-        end = and_number(out, end, numbers[i]);
-        i += 1;
+    pub fn put(&mut self, text: &[u8]) {
+        self.end = text_words::put(&mut self.bytes, self.end, text);
     }
-    end
-}
 
-pub fn and_hex(out: &mut [u8], at: usize, bytes: &[u8]) -> usize {
-    let next = put(out, at, b" ");
-    text_words::put_hex(out, next, bytes)
-}
+    // Each of these puts a space, then the word.
+    pub fn number(&mut self, n: u64) {
+        self.put(b" ");
+        self.end = put_number(&mut self.bytes, self.end, n);
+    }
 
-// A cipher is four hex digits.
-pub fn and_cipher(out: &mut [u8], at: usize, cipher: u16) -> usize {
-    let mut bytes = [0u8; 2];
-    wire_numbers::write_u16(&mut bytes, 0, cipher);
-    and_hex(out, at, &bytes)
-}
+    pub fn numbers(&mut self, numbers: &[u64]) {
+        for n in numbers {
+            self.number(*n);
+        }
+    }
 
-// The option that makes an area unreadable: where it begins, and its kind in two hex digits.
-pub fn and_fault(out: &mut [u8], at: usize, place: u8, kind: u8) -> usize {
-    let after_place = and_number(out, at, place as u64);
-    let byte = [kind];
-    and_hex(out, after_place, &byte)
-}
+    pub fn hex(&mut self, bytes: &[u8]) {
+        self.put(b" ");
+        self.end = put_hex(&mut self.bytes, self.end, bytes);
+    }
 
-// A word and a number, or several, at the start.
-pub fn put_counted(out: &mut [u8], word: &[u8], n: u64) -> usize {
-    let at = put(out, 0, word);
-    and_number(out, at, n)
-}
+    // A cipher is four hex digits.
+    pub fn cipher(&mut self, cipher: u16) {
+        self.hex(&cipher.to_be_bytes());
+    }
 
-pub fn put_numbers(out: &mut [u8], word: &[u8], numbers: &[u64]) -> usize {
-    let at = put(out, 0, word);
-    and_numbers(out, at, numbers)
-}
+    // The option that makes an area unreadable: where it begins, and its kind in two hex digits.
+    pub fn fault(&mut self, place: u8, kind: u8) {
+        self.number(u64::from(place));
+        self.hex(&[kind]);
+    }
 
-pub fn refuse(out: &mut [u8], number: u64) -> usize {
-    put_counted(out, b"refused", number)
+    // A word and a number.
+    pub fn counted(&mut self, word: &[u8], n: u64) {
+        self.put(word);
+        self.number(n);
+    }
+
+    pub fn refuse(&mut self, number: u64) {
+        self.counted(b"refused", number);
+    }
 }

@@ -1,174 +1,139 @@
-// The calls on the unit, which is lent: each is made with the words of its line, by the number of its form.
-use crate::unit_replies::put_reply;
-use crate::words::{flag, number, small, taken};
-use door::Reply;
+// The calls on the unit, which is lent: each is made with the words of its line, and its reply's words are put.
+use crate::text::Line;
+use crate::unit_replies::{put_refusal, put_reply};
+use crate::words::Said;
+use door::{Refusal, Reply};
 use link_unit::{DOORS, PLACE, ROW, ROWS, WORDS};
 
-fn offer(
-    marks: &mut [u32; WORDS],
-    rows: &mut [[u8; ROW]; ROWS],
-    doors: &mut [[u8; PLACE]; DOORS],
-    words: &[u64],
-    bytes: &[u8],
-    lent: &mut [u8],
-) -> Reply {
-    link_unit::offer(
-        marks,
-        rows,
-        doors,
-        number(words, 0) as usize,
-        small(words, 1),
-        flag(words, 2),
-        flag(words, 3),
-        taken(words, bytes, 4),
-        flag(words, 5),
-        taken(words, bytes, 6),
-        lent,
-    )
+// The unit's memory.
+#[derive(Drop)]
+pub struct Unit {
+    marks: [u32; WORDS],
+    rows: [[u8; ROW]; ROWS],
+    doors: [[u8; PLACE]; DOORS],
 }
 
-fn answer(
-    marks: &mut [u32; WORDS],
-    rows: &mut [[u8; ROW]; ROWS],
-    doors: &mut [[u8; PLACE]; DOORS],
-    words: &[u64],
-    bytes: &[u8],
-    lent: &mut [u8],
-) -> Reply {
-    link_unit::answer(
-        marks,
-        rows,
-        doors,
-        number(words, 0) as usize,
-        taken(words, bytes, 1),
-        flag(words, 2),
-        flag(words, 3),
-        taken(words, bytes, 4),
-        taken(words, bytes, 5),
-        lent,
-    )
-}
-
-fn receive(
-    marks: &[u32; WORDS],
-    rows: &[[u8; ROW]; ROWS],
-    doors: &mut [[u8; PLACE]; DOORS],
-    words: &[u64],
-    bytes: &[u8],
-) -> Reply {
-    let door = number(words, 0) as usize;
-    let area = taken(words, bytes, 3);
-    link_unit::receive(
-        marks,
-        rows,
-        doors,
-        door,
-        flag(words, 1),
-        flag(words, 2),
-        area,
-    )
-}
-
-fn store(
-    marks: &mut [u32; WORDS],
-    rows: &mut [[u8; ROW]; ROWS],
-    doors: &mut [[u8; PLACE]; DOORS],
-    words: &[u64],
-    bytes: &[u8],
-) -> Reply {
-    link_unit::store(
-        marks,
-        rows,
-        doors,
-        number(words, 0) as usize,
-        small(words, 1),
-        small(words, 2),
-        taken(words, bytes, 3),
-        taken(words, bytes, 4),
-    )
-}
-
-fn forget(
-    marks: &mut [u32; WORDS],
-    rows: &mut [[u8; ROW]; ROWS],
-    doors: &mut [[u8; PLACE]; DOORS],
-    words: &[u64],
-    bytes: &[u8],
-) -> Reply {
-    let door = number(words, 0) as usize;
-    link_unit::forget(
-        marks,
-        rows,
-        doors,
-        door,
-        small(words, 1),
-        taken(words, bytes, 2),
-    )
-}
-
-// The last arm is form 7.
-fn made(
-    marks: &mut [u32; WORDS],
-    rows: &mut [[u8; ROW]; ROWS],
-    doors: &mut [[u8; PLACE]; DOORS],
-    form: usize,
-    words: &[u64],
-    bytes: &[u8],
-    lent: &mut [u8],
-) -> Reply {
-    match form {
-        0 => offer(marks, rows, doors, words, bytes, lent),
-        1 => answer(marks, rows, doors, words, bytes, lent),
-        2 => receive(marks, rows, doors, words, bytes),
-        3 => link_unit::resend(marks, rows, doors, number(words, 0) as usize, lent),
-        5 => link_unit::close(marks, rows, doors, number(words, 0) as usize),
-        8 => link_unit::count(marks, rows, doors, number(words, 0) as usize),
-        9 => link_unit::erase(marks, rows, doors),
-        6 => store(marks, rows, doors, words, bytes),
-        _ => forget(marks, rows, doors, words, bytes),
+impl Unit {
+    // The unit when it is empty.
+    pub fn empty() -> Unit {
+        let mut unit = Unit {
+            marks: [0; WORDS],
+            rows: [[0; ROW]; ROWS],
+            doors: [[0; PLACE]; DOORS],
+        };
+        let _ = link_unit::erase(&mut unit.marks, &mut unit.rows, &mut unit.doors);
+        unit
     }
 }
 
-// The place, in the list of call, of the word for a call that has nothing else to say.
-fn done_place(form: usize) -> usize {
-    match form {
-        5 => 0,
-        6 => 7,
-        7 => 14,
-        _ => 24,
+// Puts what a call answers; `done` stands for one that has nothing else to say.
+fn put_answer(line: &mut Line, answer: Result<Reply, Refusal>, done: &[u8]) {
+    match answer {
+        Ok(reply) => put_reply(line, reply, done, b""),
+        Err(refusal) => put_refusal(line, refusal),
     }
+}
+
+pub fn offer(unit: &mut Unit, said: &Said, lent: &mut [u8], line: &mut Line) {
+    let answer = link_unit::offer(
+        &mut unit.marks,
+        &mut unit.rows,
+        &mut unit.doors,
+        said.number(0) as usize,
+        said.small(1),
+        said.flag(2),
+        said.flag(3),
+        said.taken(4),
+        said.flag(5),
+        said.taken(6),
+        lent,
+    );
+    put_answer(line, answer, b"");
+}
+
+pub fn answer(unit: &mut Unit, said: &Said, lent: &mut [u8], line: &mut Line) {
+    let answer = link_unit::answer(
+        &mut unit.marks,
+        &mut unit.rows,
+        &mut unit.doors,
+        said.number(0) as usize,
+        said.taken(1),
+        said.flag(2),
+        said.flag(3),
+        said.taken(4),
+        said.taken(5),
+        lent,
+    );
+    put_answer(line, answer, b"");
+}
+
+pub fn receive(unit: &mut Unit, said: &Said, line: &mut Line) {
+    let answer = link_unit::receive(
+        &unit.marks,
+        &unit.rows,
+        &mut unit.doors,
+        said.number(0) as usize,
+        said.flag(1),
+        said.flag(2),
+        said.taken(3),
+    );
+    put_answer(line, answer, b"");
+}
+
+pub fn resend(unit: &Unit, said: &Said, lent: &mut [u8], line: &mut Line) {
+    let door = said.number(0) as usize;
+    let answer = link_unit::resend(&unit.marks, &unit.rows, &unit.doors, door, lent);
+    put_answer(line, answer, b"");
 }
 
 // The result, with a resumed session's secret.
-fn result(
-    marks: &[u32; WORDS],
-    rows: &[[u8; ROW]; ROWS],
-    doors: &[[u8; PLACE]; DOORS],
-    words: &[u64],
-    lent: &mut [u8],
-    out: &mut [u8],
-) -> usize {
-    let told = link_unit::result(marks, rows, doors, number(words, 0) as usize, lent);
-    let reply = told.reply;
-    let secret = told.secret;
-    put_reply(out, reply, b"", &secret)
+pub fn result(unit: &Unit, said: &Said, lent: &mut [u8], line: &mut Line) {
+    let door = said.number(0) as usize;
+    match link_unit::result(&unit.marks, &unit.rows, &unit.doors, door, lent) {
+        Ok(told) => put_reply(line, told.reply, b"", &told.secret),
+        Err(refusal) => put_refusal(line, refusal),
+    }
 }
 
-// Makes a call and puts its reply's words.
-pub fn call(
-    marks: &mut [u32; WORDS],
-    rows: &mut [[u8; ROW]; ROWS],
-    doors: &mut [[u8; PLACE]; DOORS],
-    form: usize,
-    words: &[u64],
-    bytes: &[u8],
-    lent: &mut [u8],
-    out: &mut [u8],
-) -> usize {
-    if form == 4 {
-        return result(marks, rows, doors, words, lent, out);
-    }
-    let reply = made(marks, rows, doors, form, words, bytes, lent);
-    let done = b"closed stored forgotten erased";
-    put_reply(out, reply, text_words::word(done, done_place(form)), b"")
+pub fn close(unit: &mut Unit, said: &Said, line: &mut Line) {
+    let door = said.number(0) as usize;
+    let answer = link_unit::close(&unit.marks, &unit.rows, &mut unit.doors, door);
+    put_answer(line, answer, b"closed");
+}
+
+pub fn store(unit: &mut Unit, said: &Said, line: &mut Line) {
+    let answer = link_unit::store(
+        &mut unit.marks,
+        &mut unit.rows,
+        &mut unit.doors,
+        said.number(0) as usize,
+        said.small(1),
+        said.small(2),
+        said.taken(3),
+        said.taken(4),
+    );
+    put_answer(line, answer, b"stored");
+}
+
+pub fn forget(unit: &mut Unit, said: &Said, line: &mut Line) {
+    let answer = link_unit::forget(
+        &mut unit.marks,
+        &mut unit.rows,
+        &mut unit.doors,
+        said.number(0) as usize,
+        said.small(1),
+        said.taken(2),
+    );
+    put_answer(line, answer, b"forgotten");
+}
+
+pub fn count(unit: &Unit, said: &Said, line: &mut Line) {
+    let door = said.number(0) as usize;
+    let answer = link_unit::count(&unit.marks, &unit.rows, &unit.doors, door);
+    put_answer(line, answer, b"");
+}
+
+pub fn erase(unit: &mut Unit, line: &mut Line) {
+    let answer = link_unit::erase(&mut unit.marks, &mut unit.rows, &mut unit.doors);
+    put_answer(line, answer, b"erased");
 }

@@ -1,245 +1,164 @@
-// The words of a line by their kinds: a letter each, as `kinds` of main has them. Of a number its value is kept; bytes are put into a buffer as long as the line, at their word's own place, and their
-// count and place are kept. The lent buffer, BUF, has room of its own.
-use crate::text::within;
+// The words of a line by their kinds. Of a number its value is kept; bytes are put into a buffer as long as the line, at their word's own place, and their count and place are kept.
+// The lent buffer, BUF, has room of its own.
+use crate::forms::Kind;
+use crate::unfit::Unfit;
 use init::Enabled;
 use link_unit::ROW;
-use text_words::{Bytes, Number, Octet};
+use text_words::number_said;
 
-// A place past every line, where no word is.
-const NOWHERE: usize = 0xffff_ffff_ffff_ffff;
-
-// A line has at most this many words behind the first; the places of words are kept this far behind their values.
+// A line has at most this many words behind the first.
 const MOST: usize = 8;
 
-// What became of a line's words.
+// The value of a word, or how many bytes it says, and its place in the line.
 #[derive(Clone, Copy)]
-pub enum Read {
-    // All are right; of the last, where it is BUF, the bytes.
-    All { last: u64 },
-    // Something follows the last.
-    More,
-    // One, counted from the first word, is none of its kind.
-    Wrong { word: usize, kind: u8 },
+struct Word {
+    value: u64,
+    place: usize,
+}
+
+// What the words of a line say. There is no heap here: the bytes of all words stand in one array, and each word says where its own are.
+#[derive(Drop)]
+pub struct Said {
+    words: [Word; MOST],
+    bytes: [u8; 20000],
 }
 
 // The ciphers that are enabled, if a list has no other.
-#[derive(Clone, Copy)]
-pub enum Listed {
-    Known(Enabled),
-    Other,
-}
-
-pub fn enabled_in(ciphers: &[u8]) -> Listed {
-    let mut aes128 = false;
-    let mut aes256 = false;
-    let mut chacha20 = false;
-    let mut i = 0;
-    while i < ciphers.len() {
-        let cipher = wire_numbers::read_u16(ciphers, i);
-        match cipher {
-            0x0001 => {
-                aes128 = true;
-            }
-            0x0002 => {
-                aes256 = true;
-            }
-            0x0010 => {
-                chacha20 = true;
-            }
-            _ => {
-                return Listed::Other;
-            }
-        }
-        i += 2;
-    }
-    let enabled = Enabled {
-        aes128,
-        aes256,
-        chacha20,
+pub fn enabled_in(ciphers: &[u8]) -> Option<Enabled> {
+    let mut enabled = Enabled {
+        aes128: false,
+        aes256: false,
+        chacha20: false,
     };
-    Listed::Known(enabled)
-}
-
-// Whether bytes are a list of two-byte ciphers that can be enabled.
-fn can_be_enabled(bytes: &[u8]) -> bool {
-    if bytes.len() % 2 != 0 {
-        return false;
+    for cipher in ciphers.chunks(2) {
+        match cipher {
+            [0x00, 0x01] => enabled.aes128 = true,
+            [0x00, 0x02] => enabled.aes256 = true,
+            [0x00, 0x10] => enabled.chacha20 = true,
+            _ => return None,
+        }
     }
-    let list = enabled_in(bytes);
-    match list {
-        Listed::Known(enabled) => true,
-        Listed::Other => false,
-    }
-}
-
-// Whether bytes are a session record, or none.
-fn are_record(bytes: &[u8]) -> bool {
-    if bytes.len() == 0 {
-        return true;
-    }
-    bytes.len() == ROW
+    Some(enabled)
 }
 
 // Whether bytes are of a kind: two of them, an even number of them, ciphers that can be enabled, a record or none, or any.
-fn are_of(kind: u8, bytes: &[u8]) -> bool {
+fn are_of(kind: Kind, bytes: &[u8]) -> bool {
     match kind {
-        b'c' => bytes.len() == 2,
-        b'p' => bytes.len() % 2 == 0,
-        b'e' => can_be_enabled(bytes),
-        b'r' => are_record(bytes),
+        Kind::Cipher => bytes.len() == 2,
+        Kind::Ciphers => bytes.len() % 2 == 0,
+        Kind::Enabled => enabled_in(bytes).is_some(),
+        Kind::Record => bytes.is_empty() || bytes.len() == ROW,
         _ => true,
     }
 }
 
-fn at_most(most: u64, word: &[u8]) -> Number {
-    let said = text_words::number_said(word);
-    let Number::Said(value) = said else {
-        return Number::Wrong;
-    };
-    if most < value {
-        return Number::Wrong;
-    }
-    said
+fn at_most(most: u64, word: &[u8]) -> Option<u64> {
+    number_said(word).filter(|value| *value <= most)
 }
 
 // Two hex digits.
-fn octet(word: &[u8]) -> Number {
-    if word.len() != 2 {
-        return Number::Wrong;
-    }
-    let said = text_words::byte_said(word[0], word[1]);
-    match said {
-        Octet::Said(value) => Number::Said(value as u64),
-        Octet::Wrong => Number::Wrong,
+fn octet(word: &[u8]) -> Option<u64> {
+    match word {
+        [high, low] => text_words::byte_said(*high, *low).map(u64::from),
+        _ => None,
     }
 }
 
 // How many bytes a word says; they are put into a buffer from a place on.
-fn bytes_at(word: &[u8], into: &mut [u8], at: usize) -> Number {
-    let start = within(at, into);
-    let said = text_words::bytes_said(word, &mut into[start..]);
-    match said {
-        Bytes::Said(count) => Number::Said(count as u64),
-        Bytes::Wrong => Number::Wrong,
-    }
+fn bytes_at(word: &[u8], into: &mut [u8], at: usize) -> Option<u64> {
+    let start = at.min(into.len());
+    let count = text_words::bytes_said(word, &mut into[start..])?;
+    Some(count as u64)
 }
 
 // The same, where the bytes are of a kind.
-fn bytes_of(kind: u8, word: &[u8], into: &mut [u8], at: usize) -> Number {
-    let said = bytes_at(word, into, at);
-    let Number::Said(count) = said else {
-        return Number::Wrong;
-    };
-    if are_of(
-        kind,
-        text_words::first(text_words::from(into, at), count as usize),
-    ) {
-        return said;
-    }
-    Number::Wrong
+fn bytes_of(kind: Kind, word: &[u8], into: &mut [u8], at: usize) -> Option<u64> {
+    let count = bytes_at(word, into, at)?;
+    let bytes = text_words::first(text_words::from(into, at), count as usize);
+    are_of(kind, bytes).then_some(count)
 }
 
 // What a word says by its kind: a number, or how many bytes; they are put into `bytes` at the word's place, and those of BUF into `lent`.
-fn word_said(kind: u8, word: &[u8], at: usize, bytes: &mut [u8], lent: &mut [u8]) -> Number {
+fn word_said(kind: Kind, word: &[u8], at: usize, bytes: &mut [u8], lent: &mut [u8]) -> Option<u64> {
     match kind {
-        b'n' => at_most(0xffff_ffff_ffff_ffff, word),
-        b's' => at_most(65535, word),
-        b'o' => at_most(255, word),
-        b'f' => at_most(1, word),
-        b't' => octet(word),
-        b'l' => bytes_at(word, lent, 0),
+        Kind::Number => number_said(word),
+        Kind::Short => at_most(65535, word),
+        Kind::Small => at_most(255, word),
+        Kind::Flag => at_most(1, word),
+        Kind::Octet => octet(word),
+        Kind::Lent => bytes_at(word, lent, 0),
         _ => bytes_of(kind, word, bytes, at),
     }
 }
 
-// Where the word behind a space begins; past every line where there is none.
-fn word_start(line: &[u8], at: usize) -> usize {
-    if line.len() <= at {
-        return NOWHERE;
+impl Said {
+    pub fn nothing() -> Said {
+        Said {
+            words: [Word { value: 0, place: 0 }; MOST],
+            bytes: [0; 20000],
+        }
     }
-    at + 1
-}
 
-fn set(words: &mut [u64], k: usize, value: u64) {
-    if k < words.len() {
-        words[k] = value;
+    // Reads the words of a line behind its first, which ends at `at`, by the kinds of its form, whose text has their names. Gives what the last says.
+    pub fn read(
+        &mut self,
+        line: &[u8],
+        at: usize,
+        text: &'static [u8],
+        kinds: &[Kind],
+        lent: &mut [u8],
+    ) -> Result<u64, Unfit> {
+        let mut end = at;
+        let mut last = 0;
+        for (k, &kind) in kinds.iter().enumerate() {
+            let wrong = Unfit::Wrong {
+                text,
+                word: k + 1,
+                kind,
+            };
+            if line.len() <= end {
+                return Err(wrong);
+            }
+            let place = end + 1;
+            end = text_words::word_end(line, place);
+            let word = text_words::between(line, place, end);
+            let value = word_said(kind, word, place, &mut self.bytes, lent).ok_or(wrong)?;
+            if k < MOST {
+                self.words[k] = Word { value, place };
+            }
+            last = value;
+        }
+        if end == line.len() {
+            Ok(last)
+        } else {
+            Err(Unfit::More)
+        }
     }
-}
 
-// Keeps the value and the place of a word.
-fn keep(words: &mut [u64], k: usize, value: u64, place: usize) {
-    if k < MOST {
-        set(words, k, value);
-        set(words, k + MOST, place as u64);
+    // The word with a number, the first behind the command being 0. What was read is within the range of each, so that the remainders of short and small change nothing.
+    pub fn number(&self, k: usize) -> u64 {
+        self.words.get(k).map_or(0, |word| word.value)
     }
-}
 
-// Reads the words of a line behind its first, which ends at `at`, by their kinds.
-pub fn read_words(
-    line: &[u8],
-    at: usize,
-    kinds: &[u8],
-    words: &mut [u64],
-    bytes: &mut [u8],
-    lent: &mut [u8],
-) -> Read {
-    let mut place = at;
-    let mut last = 0;
-    let mut k = 0;
-    while k < kinds.len() {
-        let kind = kinds[k];
-        let start = word_start(line, place);
-        let end = text_words::word_end(line, start);
-        let said = word_said(
-            kind,
-            text_words::between(line, start, end),
-            start,
-            bytes,
-            lent,
-        );
-        let Number::Said(value) = said else {
-            return Read::Wrong { word: k + 1, kind };
-        };
-        keep(words, k, value, start);
-        last = value;
-        place = end;
-        k += 1;
+    pub fn short(&self, k: usize) -> u16 {
+        (self.number(k) % 65536) as u16
     }
-    if place == line.len() {
-        return Read::All { last };
+
+    pub fn small(&self, k: usize) -> u8 {
+        (self.number(k) % 256) as u8
     }
-    Read::More
-}
 
-// The word with a number, the first behind the command being 0. What was read is within the range of each.
-pub fn number(words: &[u64], k: usize) -> u64 {
-    if words.len() <= k {
-        return 0;
+    pub fn flag(&self, k: usize) -> bool {
+        self.number(k) == 1
     }
-    words[k]
-}
 
-pub fn short(words: &[u64], k: usize) -> u16 {
-    (number(words, k) % 65536) as u16
-}
-
-pub fn small(words: &[u64], k: usize) -> u8 {
-    (number(words, k) % 256) as u8
-}
-
-pub fn flag(words: &[u64], k: usize) -> bool {
-    number(words, k) == 1
-}
-
-fn place(words: &[u64], k: usize) -> u64 {
-    if MOST <= k {
-        return 0;
+    pub fn taken(&self, k: usize) -> &[u8] {
+        match self.words.get(k) {
+            Some(word) => {
+                let from_word = text_words::from(&self.bytes, word.place);
+                text_words::first(from_word, word.value as usize)
+            }
+            None => b"",
+        }
     }
-    number(words, k + MOST)
-}
-
-pub fn taken<'a>(words: &[u64], bytes: &'a [u8], k: usize) -> &'a [u8] {
-    let at = place(words, k) as usize;
-    let count = number(words, k) as usize;
-    text_words::first(text_words::from(bytes, at), count)
 }

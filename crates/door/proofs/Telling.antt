@@ -1,5 +1,5 @@
 -- The numbers and values lose nothing: two answers of the code that say the same are the same.
-use Rattle.std.specs.Prelude.{ℕ, zero, suc, ◌≡◌, refl, List, Bool, true, false}
+use Rattle.std.specs.Prelude.{ℕ, zero, suc, ◌≡◌, refl, List, Bool, true, false, Result, Ok, Err}
 use Rattle.std.proofs.Common.{sym, ◌∙◌, ap}
 use Rattle.eno.specs.Judge.{way_if, is_resumed}
 use Rattle.eno.specs.declared.SessionRecord.{SessionRecord}
@@ -60,29 +60,29 @@ phase_back_lem phase.Plain = refl
 pub phase_tells : (a b : Phase) → phase_as a ≡ phase_as b → a ≡ b
 phase_tells a b e = sym (phase_back_lem a) ∙ (ap phase_back e ∙ phase_back_lem b)
 
-abbrev reply_back : o.Reply → Reply
-reply_back (o.refused n) = reply.Refused (refusal_of n)
-reply_back (o.written n) = reply.Written n
-reply_back (o.plain n) = reply.Plain n
-reply_back (o.now_in p) = reply.Now (phase_back p)
-reply_back (o.encrypted role byte way n secret) = reply.Encrypted role byte (is_resumed way) n
-reply_back o.done = reply.Done
-reply_back (o.holds n) = reply.Holds n
+abbrev reply_back : o.Reply → Result Reply Refusal
+reply_back (o.refused n) = Err (refusal_of n)
+reply_back (o.written n) = Ok (reply.Written n)
+reply_back (o.plain n) = Ok (reply.Plain n)
+reply_back (o.now_in p) = Ok (reply.Now (phase_back p))
+reply_back (o.encrypted role byte way n secret) = Ok (reply.Encrypted role byte (is_resumed way) n)
+reply_back o.done = Ok reply.Done
+reply_back (o.holds n) = Ok (reply.Holds n)
 
 resumed_back : (b : Bool) → is_resumed (way_if b) ≡ b
 resumed_back true = refl
 resumed_back false = refl
 
-reply_back_lem : (r : Reply) (secret : List ℕ) → reply_back (reply_of r secret) ≡ r
-reply_back_lem (reply.Refused r) secret = ap reply.Refused (refusal_back r)
-reply_back_lem (reply.Written n) secret = refl
-reply_back_lem (reply.Plain n) secret = refl
-reply_back_lem (reply.Now p) secret = ap reply.Now (phase_back_lem p)
-reply_back_lem (reply.Encrypted role byte again n) secret = ap (λ b. reply.Encrypted role byte b n) (resumed_back again)
-reply_back_lem reply.Done secret = refl
-reply_back_lem (reply.Holds n) secret = refl
+reply_back_lem : (r : Result Reply Refusal) (secret : List ℕ) → reply_back (reply_of r secret) ≡ r
+reply_back_lem (Err r) secret = ap Err (refusal_back r)
+reply_back_lem (Ok (reply.Written n)) secret = refl
+reply_back_lem (Ok (reply.Plain n)) secret = refl
+reply_back_lem (Ok (reply.Now p)) secret = ap (λ x. Ok (reply.Now x)) (phase_back_lem p)
+reply_back_lem (Ok (reply.Encrypted role byte again n)) secret = ap (λ b. Ok (reply.Encrypted role byte b n)) (resumed_back again)
+reply_back_lem (Ok reply.Done) secret = refl
+reply_back_lem (Ok (reply.Holds n)) secret = refl
 
-pub reply_tells : (a b : Reply) (s t : List ℕ) → reply_of a s ≡ reply_of b t → a ≡ b
+pub reply_tells : (a b : Result Reply Refusal) (s t : List ℕ) → reply_of a s ≡ reply_of b t → a ≡ b
 reply_tells a b s t e = sym (reply_back_lem a s) ∙ (ap reply_back e ∙ reply_back_lem b t)
 
 abbrev change_back : Effect → Change

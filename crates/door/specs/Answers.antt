@@ -1,5 +1,5 @@
 -- The answers of the code, in document 01's numbers and values.
-use Rattle.std.specs.Prelude.{ℕ, List, Bool, replicate}
+use Rattle.std.specs.Prelude.{ℕ, List, Bool, replicate, Result, Ok, Err}
 use Rattle.eno.specs.declared.SessionRecord.{SessionRecord}
 use Rattle.door.specs.Door as d
 use Rattle.eno.specs.Judge.{way_if}
@@ -13,6 +13,7 @@ use Rattle.door.specs.declared.Phase.{Phase}
 use Rattle.door.specs.declared.Phase.TheVariants as phase
 use Rattle.door.specs.declared.Reply.{Reply}
 use Rattle.door.specs.declared.Reply.TheVariants as reply
+use Rattle.door.specs.declared.Resulted.{Resulted}
 use Rattle.door.specs.declared.Change.{Change}
 use Rattle.door.specs.declared.Change.TheVariants as change
 
@@ -35,15 +36,25 @@ phase_as phase.Answered = d.answering
 phase_as phase.Open = d.opened
 phase_as phase.Plain = d.unencrypted
 
--- a reply, and the secret that stands beside it
-abbrev pub reply_of : Reply → List ℕ → o.Reply
-reply_of (reply.Refused r) secret = o.refused (refusal_number r)
-reply_of (reply.Written n) secret = o.written n
-reply_of (reply.Plain n) secret = o.plain n
-reply_of (reply.Now p) secret = o.now_in (phase_as p)
-reply_of (reply.Encrypted role byte again n) secret = o.encrypted role byte (way_if again) n secret
-reply_of reply.Done secret = o.done
-reply_of (reply.Holds n) secret = o.holds n
+-- a reply or a refusal, and the secret that stands beside it
+abbrev pub reply_of : Result Reply Refusal → List ℕ → o.Reply
+reply_of (Err r) secret = o.refused (refusal_number r)
+reply_of (Ok (reply.Written n)) secret = o.written n
+reply_of (Ok (reply.Plain n)) secret = o.plain n
+reply_of (Ok (reply.Now p)) secret = o.now_in (phase_as p)
+reply_of (Ok (reply.Encrypted role byte again n)) secret = o.encrypted role byte (way_if again) n secret
+reply_of (Ok reply.Done) secret = o.done
+reply_of (Ok (reply.Holds n)) secret = o.holds n
+
+-- a result's reply with its secret, or its refusal
+abbrev pub result_reply : Result Resulted Refusal → o.Reply
+result_reply (Err r) = o.refused (refusal_number r)
+result_reply (Ok r) = reply_of (Ok r.reply) r.secret
+
+-- the secret that a result gives: zeros beside a refusal
+abbrev pub result_secret : Result Resulted Refusal → List ℕ
+result_secret (Err r) = replicate 32 0
+result_secret (Ok r) = r.secret
 
 -- a change, and the record that is added
 abbrev pub effect_of : Change → SessionRecord → Effect

@@ -1,6 +1,10 @@
 // One door: what it keeps, and what its calls answer. The definitions and theorems are in specs/; the crates above have the calls.
 #![tactic(auto)]
 
+ghost use Rattle.std.specs.Prelude.{◌≡◌};
+ghost use Rattle.door.specs.Door.{phase_number};
+ghost use Rattle.door.specs.Answers.{refusal_number, phase_as};
+
 use eno::{Cause, InHand, SessionRecord};
 
 // How many records a door may hold.
@@ -11,6 +15,7 @@ pub const EACH: usize = 4;
 #[derive(Clone, Copy)]
 pub struct Door {
     // 0 Idle, 1 Offered, 2 Crossed, 3 Answered, 4 Open, 5 Plain; any other reads as Idle.
+    // It is no Phase: a host may lend any byte here, and a call that is refused leaves it as it was (unit_step's theorem refused_leaves_every_byte).
     pub phase: u8,
     pub mandatory: bool,
     // Why it is Plain.
@@ -44,7 +49,7 @@ pub enum Change {
 }
 
 // Why a call is refused.
-#[derive(Clone, Copy)]
+#[derive(Clone, Copy, PartialEq, Eq)]
 pub enum Refusal {
     NoDoor,
     AreaTooLong,
@@ -56,7 +61,25 @@ pub enum Refusal {
     NotHeld,
 }
 
-#[derive(Clone, Copy)]
+impl Refusal {
+    // Document 01's number of it.
+    pub fn number(self) -> u8
+        ensures { result ≡ refusal_number self }
+    {
+        match self {
+            Refusal::NoDoor => 1,
+            Refusal::AreaTooLong => 2,
+            Refusal::Unfit => 3,
+            Refusal::OutOfTurn => 4,
+            Refusal::NoRoom => 5,
+            Refusal::Full => 6,
+            Refusal::AlreadyHeld => 7,
+            Refusal::NotHeld => 16,
+        }
+    }
+}
+
+#[derive(Clone, Copy, PartialEq, Eq)]
 pub enum Phase {
     Idle,
     Offered,
@@ -66,10 +89,26 @@ pub enum Phase {
     Plain,
 }
 
-// What a call replies.
+impl Phase {
+    // The number by which a door keeps it.
+    #[tactic(auto, unfolding(crate::specs::Door::phase_number))]
+    pub fn number(self) -> u8
+        ensures { result ≡ phase_number (phase_as self) }
+    {
+        match self {
+            Phase::Idle => 0,
+            Phase::Offered => 1,
+            Phase::Crossed => 2,
+            Phase::Answered => 3,
+            Phase::Open => 4,
+            Phase::Plain => 5,
+        }
+    }
+}
+
+// What a call replies where it is not refused.
 #[derive(Clone, Copy)]
 pub enum Reply {
-    Refused(Refusal),
     Written(usize),
     Plain(Cause),
     Now(Phase),
@@ -81,4 +120,11 @@ pub enum Reply {
     },
     Done,
     Holds(usize),
+}
+
+// What result replies, and beside it the secret of the session that is resumed: zeros where there is none.
+#[derive(Clone, Copy)]
+pub struct Resulted {
+    pub reply: Reply,
+    pub secret: [u8; 32],
 }

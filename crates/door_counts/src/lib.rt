@@ -8,14 +8,11 @@ ghost use Rattle.door.specs.Door.{Counts};
 use door::{EACH, View};
 
 // How many records a count stands for: a count above the most reads as the most.
+#[tactic(auto, unfolding(door::specs::Numbers::each_n))]
 pub fn listed_count(count: u8) -> usize
     ensures { result ≡ min count each_n }
 {
-    let n = wire::wide(count);
-    if EACH < n {
-        return EACH;
-    }
-    n
+    usize::from(count).min(EACH)
 }
 
 // How many records a view shows.

@@ -10,51 +10,39 @@ ghost use Rattle.door_data.specs.Kept.{kept_option};
 use door::Phase;
 
 // The phase that a number stands for.
+#[tactic(auto, using(crate::proofs::Phases::phase_idle), unfolding(door::specs::Door::phase_of))]
 pub fn phase_of(n: u8) -> Phase
     ensures { phase_as result ≡ phase_of n }
 {
-    if n == 1 {
-        return Phase::Offered;
+    match n {
+        1 => Phase::Offered,
+        2 => Phase::Crossed,
+        3 => Phase::Answered,
+        4 => Phase::Open,
+        5 => Phase::Plain,
+        _ => Phase::Idle,
     }
-    if n == 2 {
-        return Phase::Crossed;
-    }
-    if n == 3 {
-        return Phase::Answered;
-    }
-    if n == 4 {
-        return Phase::Open;
-    }
-    if n == 5 {
-        return Phase::Plain;
-    }
-    Phase::Idle
 }
 
+#[tactic(auto, using(crate::proofs::Phases::idle_zero, crate::proofs::Phases::idle_other))]
 pub fn is_idle(phase: u8) -> bool
     ensures { result ≡ is_idle (phase_of phase) }
 {
-    if phase == 0 {
-        return true;
-    }
-    5 < phase
+    phase == 0 || 5 < phase
 }
 
 // How many bytes of a stored option count.
 pub fn kept_length(stored: u8) -> usize
     ensures { (result ≡ min stored 40) × (result ≤ 40) }
 {
-    if stored < 40 {
-        return stored as usize;
-    }
-    40
+    usize::from(stored).min(40)
 }
 
 // The bytes of an option as a door keeps them; zeros where there are more than 40.
 pub fn kept_option(o: &[u8]) -> [u8; 40]
     ensures { result ≡ kept_option o.now }
 {
-    let mut bytes = [0u8; 40];
+    let mut bytes = [0; 40];
     wire::copy(&mut bytes, 0, o);
     bytes
 }

@@ -13,56 +13,42 @@ use unit_bytes::{HELD, IDENTIFIER, MANDATORY, OWN, PEER, PLACE, RESUMED, SECRET}
 fn is_set(x: u8) -> bool
     ensures { result ≡ is_set x }
 {
-    if x == 0 {
-        return false;
-    }
-    true
+    x != 0
 }
 
 // What a door's bytes say.
 pub fn position_of(bytes: [u8; PLACE]) -> Position
     ensures { result ≡ position_in bytes }
 {
-    let mut own = [0u8; 40];
-    wire::copy(&mut own, 0, &bytes[OWN..PEER]);
-    let mut peer = [0u8; 40];
-    wire::copy(&mut peer, 0, &bytes[PEER..IDENTIFIER]);
-    let mut identifier = [0u8; 18];
-    wire::copy(&mut identifier, 0, &bytes[IDENTIFIER..SECRET]);
-    let mut secret = [0u8; 32];
-    wire::copy(&mut secret, 0, &bytes[SECRET..PLACE]);
-    let mandatory = is_set(bytes[MANDATORY]);
-    let resumed = is_set(bytes[RESUMED]);
-    let held = is_set(bytes[HELD]);
     let session = SessionRecord {
         tep: bytes[11],
         role: bytes[12],
-        identifier,
-        secret,
-    };
-    let hand = InHand { held, session };
-    let cause = Cause {
-        reason: bytes[2],
-        place: bytes[3],
-        kind: bytes[4],
+        identifier: unit_bytes::part_at(&bytes, IDENTIFIER),
+        secret: unit_bytes::part_at(&bytes, SECRET),
     };
     let door = Door {
         phase: bytes[0],
-        mandatory,
-        cause,
+        mandatory: is_set(bytes[MANDATORY]),
+        cause: Cause {
+            reason: bytes[2],
+            place: bytes[3],
+            kind: bytes[4],
+        },
         role: bytes[5],
         tep: bytes[6],
-        resumed,
+        resumed: is_set(bytes[RESUMED]),
         own_length: bytes[8],
         peer_length: bytes[9],
-        own,
-        peer,
-        hand,
+        own: unit_bytes::part_at(&bytes, OWN),
+        peer: unit_bytes::part_at(&bytes, PEER),
+        hand: InHand {
+            held: is_set(bytes[HELD]),
+            session,
+        },
     };
-    let rows = [bytes[14], bytes[15], bytes[16], bytes[17]];
     Position {
         door,
         count: bytes[13],
-        rows,
+        rows: [bytes[14], bytes[15], bytes[16], bytes[17]],
     }
 }

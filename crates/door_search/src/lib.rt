@@ -10,6 +10,7 @@ use door::View;
 use eno::SessionRecord;
 
 // What is looked for, by the bytes that stand beside it: a record whose TEP they list; one of a TEP that expects the half which stands in them from a place on; one of a TEP whose identifier they are.
+// An enum and no closure: the theorems `first_listed`, `first_expecting` and `first_named` speak of its variants.
 #[derive(Clone, Copy)]
 pub enum Sought {
     Listed,
@@ -42,18 +43,15 @@ fn is_sought(session: SessionRecord, sought: Sought, bytes: &[u8]) -> bool
     }
 }
 
-// The oldest record that is looked for; the number of records where there is none.
+// The oldest record that is looked for; the number of records where there is none, and no Option, since the definitions `first_that`, `offered_at` and `fitting_at` have that number.
 pub fn first_sought(view: View, sought: Sought, bytes: &[u8]) -> usize
     ensures { result ≡ first_that (is_sought sought bytes.now) (seen_of view).held }
 {
     let n = door_counts::held_count(view);
-    let mut i = 0;
-    while i < n {
-        let session = view.held[i];
-        if is_sought(session, sought, bytes) {
+    for (i, session) in view.held[..n].iter().enumerate() {
+        if is_sought(*session, sought, bytes) {
             return i;
         }
-        i += 1;
     }
     n
 }

@@ -9,71 +9,57 @@ use door::Door;
 use eno::{Cause, InHand, SessionRecord};
 
 // Zeros.
+#[tactic(auto, unfolding(door::specs::Door::no_session))]
 pub fn no_session() -> SessionRecord
     ensures { result ≡ no_session }
 {
-    let identifier = [0u8; 18];
-    let secret = [0u8; 32];
     SessionRecord {
         tep: 0,
         role: 0,
-        identifier,
-        secret,
+        identifier: [0; 18],
+        secret: [0; 32],
     }
 }
 
 // Nothing in hand: a dropped record is overwritten with zeros.
+#[tactic(auto, unfolding(door::specs::Door::empty_hand))]
 pub fn empty_hand() -> InHand
     ensures { result ≡ empty_hand }
 {
-    let session = no_session();
     InHand {
         held: false,
-        session,
+        session: no_session(),
     }
 }
 
 // A door as it is made.
+#[tactic(auto, unfolding(door::specs::Door::idle_door))]
 pub fn idle_door() -> Door
     ensures { result ≡ idle_door }
 {
-    let hand = empty_hand();
-    let cause = Cause {
-        reason: 0,
-        place: 0,
-        kind: 0,
-    };
     Door {
         phase: 0,
         mandatory: false,
-        cause,
+        cause: Cause::numbered(0),
         role: 0,
         tep: 0,
         resumed: false,
         own_length: 0,
         peer_length: 0,
-        own: [0u8; 40],
-        peer: [0u8; 40],
-        hand,
+        own: [0; 40],
+        peer: [0; 40],
+        hand: empty_hand(),
     }
 }
 
 // A door in Plain: what was in hand is dropped.
+#[tactic(auto, unfolding(door::specs::Answer::plain_door, door::specs::Door::kept, door::specs::Door::idle_door))]
 pub fn plain_door(cause: Cause) -> Door
     ensures { result ≡ plain_door cause }
 {
-    let hand = empty_hand();
     Door {
         phase: 5,
-        mandatory: false,
         cause,
-        role: 0,
-        tep: 0,
-        resumed: false,
-        own_length: 0,
-        peer_length: 0,
-        own: [0u8; 40],
-        peer: [0u8; 40],
-        hand,
+        ..idle_door()
     }
 }

@@ -12,13 +12,7 @@ use unit_bytes::{HELD, IDENTIFIER, MANDATORY, NUMBERS, OWN, PEER, PLACE, RESUMED
 fn flag_over(old: u8, x: bool) -> u8
     ensures { result ≡ flag_over old x }
 {
-    if x {
-        if old == 0 {
-            return 1;
-        }
-        return old;
-    }
-    0
+    if x { old.max(1) } else { 0 }
 }
 
 // The pieces of a door, one behind the other.
@@ -45,36 +39,32 @@ pub fn bytes_of(old: [u8; PLACE], position: Position) -> [u8; PLACE]
     ensures { (result ≡ bytes_of old position) × (position_in result ≡ position) × (length old ≡ door_size) }
 {
     let door = position.door;
-    let cause = door.cause;
-    let hand = door.hand;
-    let session = hand.session;
-    let rows = position.rows;
-    let mandatory = flag_over(old[MANDATORY], door.mandatory);
-    let resumed = flag_over(old[RESUMED], door.resumed);
-    let held = flag_over(old[HELD], hand.held);
+    let session = door.hand.session;
     let numbers = [
         door.phase,
-        mandatory,
-        cause.reason,
-        cause.place,
-        cause.kind,
+        flag_over(old[MANDATORY], door.mandatory),
+        door.cause.reason,
+        door.cause.place,
+        door.cause.kind,
         door.role,
         door.tep,
-        resumed,
+        flag_over(old[RESUMED], door.resumed),
         door.own_length,
         door.peer_length,
-        held,
+        flag_over(old[HELD], door.hand.held),
         session.tep,
         session.role,
         position.count,
-        rows[0],
-        rows[1],
-        rows[2],
-        rows[3],
+        position.rows[0],
+        position.rows[1],
+        position.rows[2],
+        position.rows[3],
     ];
-    let own = door.own;
-    let peer = door.peer;
-    let identifier = session.identifier;
-    let secret = session.secret;
-    place_with(numbers, own, peer, identifier, secret)
+    place_with(
+        numbers,
+        door.own,
+        door.peer,
+        session.identifier,
+        session.secret,
+    )
 }

@@ -7,3 +7,4 @@ pub mod ReadBack
 pub mod SuboptionGrammar
 pub mod WrittenValues
 pub mod Laws
+pub mod Halves

@@ -1,5 +1,4 @@
 -- Laws of the definitions, for the proofs.
-pub mod Tep
 pub mod Walk
 pub mod Area
 pub mod Found

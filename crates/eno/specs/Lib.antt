@@ -6,6 +6,7 @@ pub mod Suboption
 pub mod Tep
 pub mod Session
 pub mod Judge
+pub mod Way
 pub mod Option
 pub mod Content
 pub mod AreaGrammar

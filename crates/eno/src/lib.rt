@@ -1,69 +1,65 @@
 // What the crates over TCP-ENO options share: the TEPs that the unit knows, and the session record.
 #![tactic(auto)]
 
-ghost use Rattle.std.specs.Prelude.{◌≡◌};
-ghost use Rattle.eno.specs.Tep.{tep_of};
+ghost use Rattle.std.specs.Prelude.{◌≡◌, is_some};
+ghost use Rattle.eno.specs.Tep.{is_known, key_length, name_of, tep_of};
+ghost use Rattle.eno.specs.Cause.{numbered};
 
-// A TCP encryption protocol (TEP), by its name without the bit v.
-#[derive(Clone, Copy)]
-pub struct Tep {
-    pub name: u8,
-    // Whether the unit knows it.
-    pub known: bool,
-    // How long its public key is; 0 where the host reads the Init messages.
-    pub key_length: usize,
+// A TCP encryption protocol (TEP) that the unit knows.
+#[derive(Clone, Copy, PartialEq, Eq)]
+pub enum Tep {
+    P256,
+    P521,
+    Curve25519,
+    Curve448,
 }
 
 impl Tep {
-    pub const P256: u8 = 0x21;
-
-    pub const P521: u8 = 0x22;
-
-    pub const CURVE25519: u8 = 0x23;
-
-    pub const CURVE448: u8 = 0x24;
-
     pub const CURVE25519_KEY: usize = 32;
 
     pub const CURVE448_KEY: usize = 56;
 
-    pub fn of(name: u8) -> Tep
-        ensures { result ≡ tep_of name }
+    // The TEP with a name, which is its byte without the bit v, if the unit knows one.
+    #[tactic(auto, unfolding(crate::specs::Tep::is_known, crate::specs::Tep::tep_of))]
+    pub fn of(name: u8) -> Option<Tep>
+        ensures named { result ≡ tep_of name }
+        ensures known { is_some result ≡ is_known name }
     {
-        if name == Tep::CURVE25519 {
-            return Tep {
-                name,
-                known: true,
-                key_length: Tep::CURVE25519_KEY,
-            };
-        }
-        if name == Tep::CURVE448 {
-            return Tep {
-                name,
-                known: true,
-                key_length: Tep::CURVE448_KEY,
-            };
-        }
-        if name == Tep::P256 {
-            return Tep {
-                name,
-                known: true,
-                key_length: 0,
-            };
-        }
-        if name == Tep::P521 {
-            return Tep {
-                name,
-                known: true,
-                key_length: 0,
-            };
-        }
-        Tep {
-            name,
-            known: false,
-            key_length: 0,
+        match name {
+            0x21 => Some(Tep::P256),
+            0x22 => Some(Tep::P521),
+            0x23 => Some(Tep::Curve25519),
+            0x24 => Some(Tep::Curve448),
+            _ => None,
         }
     }
+
+    // How long the public key is of the TEP with a name; 0 where the host reads the Init messages, and where the unit knows none.
+    #[tactic(auto, unfolding(crate::specs::Tep::tep_of, crate::specs::Tep::key_length))]
+    pub fn key_length_of(name: u8) -> usize
+        ensures { result ≡ key_length name }
+    {
+        Tep::of(name).map_or(0, Tep::key_length)
+    }
+
+    // How long its public key is; 0 where the host reads the Init messages.
+    #[tactic(auto, unfolding(crate::specs::Tep::key_length))]
+    pub fn key_length(self) -> usize
+        ensures { result ≡ key_length (name_of self) }
+    {
+        match self {
+            Tep::Curve25519 => Tep::CURVE25519_KEY,
+            Tep::Curve448 => Tep::CURVE448_KEY,
+            Tep::P256 | Tep::P521 => 0,
+        }
+    }
+}
+
+// How a connection is keyed: by a fresh key exchange, or by a session that is resumed.
+#[derive(Clone, Copy, PartialEq, Eq)]
+pub enum Way {
+    Fresh,
+    Resumed,
 }
 
 // A session that may be resumed.
@@ -92,4 +88,17 @@ pub struct Cause {
     pub reason: u8,
     pub place: u8,
     pub kind: u8,
+}
+
+impl Cause {
+    // A reason that has no place; the reason 0 stands where there is none.
+    pub fn numbered(reason: u8) -> Cause
+        ensures { result ≡ numbered reason }
+    {
+        Cause {
+            reason,
+            place: 0,
+            kind: 0,
+        }
+    }
 }

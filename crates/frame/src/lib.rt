@@ -3,8 +3,8 @@
 
 pub use frame_header::{read_header, write_header};
 pub use frame_layout::{
-    HeaderRead, HeaderSays, HeaderWritten, NextOffset, NonceMade, NonceSays, PlaintextRead,
-    PlaintextWritten,
+    Header, HeaderReadRefusal, HeaderWriteRefusal, OtherLength, Plaintext, PlaintextWriteRefusal,
+    TooShort,
 };
 pub use frame_nonce::{frame_id, nonce};
 pub use frame_offset::next_offset;

@@ -14,7 +14,7 @@ use Rattle.refusals.specs.Rows.{refusal}
 use Rattle.frame_layout.specs.Layout as layout
 use Rattle.frame_layout.specs.Layout.{bit0, bit1, control_sent, associated, next_offset, no_frame, least_length, most_length, most_offset, most_plaintext, flags_sent, heading_length, heading}
 use Rattle.frame_layout.proofs.LayoutLaws.{sent_rekey, sent_fin, sent_urg, frame_fits}
-use Rattle.frame_layout.specs.Outcome.{refused, begins, header, written, plaintext, Outcome, unless}
+use Rattle.frame_layout.specs.Outcome.{refused, begins, written, Outcome, unless}
 use Rattle.frame_layout.specs.Calls.{next, write_header, read_header, write_plaintext, read_plaintext, length_in, header_in, header_out, plaintext_in, plaintext_out, no_plaintext, outcome}
 use Rattle.frame_layout.specs.Reading.{header_given, IsHeader, plaintext_given, IsPlaintext, ReadsBack}
 

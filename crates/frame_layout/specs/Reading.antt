@@ -1,6 +1,5 @@
 -- Reading means the layout, whatever the reserved bits, and what is written is read back. Assumes nothing.
-use Rattle.std.specs.Prelude.{ℕ, ◌+◌, ◌^◌, ◌≤◌, ◌<◌, ◌≡◌, List, [], ◌∷◌, ◌++◌, Bool, false, cond, ◌↔◌, drop}
-use Rattle.std.proofs.Common.{◌∙◌}
+use Rattle.std.specs.Prelude.{ℕ, ◌^◌, ◌<◌, ◌≡◌, List, [], ◌++◌, Bool, false, cond, drop}
 use Rattle.frame_layout.specs.Layout as layout
 use Rattle.frame_layout.specs.Layout.{bit0, bit1, next_offset, no_frame, heading_length}
 use Rattle.frame_layout.specs.Outcome.{header, plaintext, Outcome}

@@ -1,7 +1,5 @@
 -- Demand 1 for frames: a refusal leaves the lent buffer as found, and a reply is `refused n` exactly when n is the least number that applies. Assumes nothing.
-use Rattle.std.specs.Prelude.{ℕ, ◌↔◌}
-use Rattle.std.proofs.Math.Path.{◌≡◌}
-use Rattle.std.proofs.Common.{◌∙◌}
+use Rattle.std.specs.Prelude.{ℕ}
 use Rattle.std.proofs.Math.Option.{Option, none, some}
 use Rattle.frame_layout.specs.Outcome.{Reply, refused, begins, header, made, written, plaintext}
 

@@ -6,7 +6,7 @@ use native.Mathlib.Omega.{arith}
 use native.Mathlib.Decide.{ℕ_discrete}
 use borrow.Author.Tests.{eq-eqb, ne_eqb}
 use lib.Bits.{bit_xor}
-use lib.ListN.{length, get_or, set, replicate, length-set, drop_of_length-le}
+use lib.ListN.{length, get_or, set, length-set, drop_of_length-le}
 use lib.Seq.{ext_get_or, get_or-set_same, get_or-set_other}
 use Rattle.wire.specs.Bytes.{pasted}
 use Rattle.wire.specs.ByteLaws.{pasted_fits}
@@ -17,7 +17,7 @@ use Rattle.refusals.specs.Rows.{refusal}
 use Rattle.frame_layout.specs.Outcome.{unless}
 use Rattle.frame_layout.specs.Calls.{nonce, outcome}
 use Rattle.frame_layout.specs.Answers.{nonce_told}
-use Rattle.frame_layout.specs.declared.NonceSays.TheVariants as k
+use Rattle.std.specs.Prelude.{Ok, Err}
 
 -- bytes that fill a buffer
 pub id_made : (s : List ℕ) (offset : ℕ) (t : List ℕ) → length s ≡ 12 → t ≡ pasted s 0 (frame_id offset) → t ≡ frame_id offset
@@ -65,15 +65,15 @@ module _ (fixed id made : List ℕ) (i : ℕ) (m : Mixed fixed id made i) where
       x = bit_xor (get_or made i 0) (get_or fixed i 0)
 
 module _ (fixed : List ℕ) (offset : ℕ) where
-  pub nonce_unfit : (length fixed ≡ 12 → ⊥) → nonce_told (record { says = k.OtherLength; nonce = replicate 12 0 }) ≡ outcome (nonce fixed offset)
+  pub nonce_unfit : (length fixed ≡ 12 → ⊥) → nonce_told (Err (record {})) ≡ outcome (nonce fixed offset)
   unfolding outcome unless refusal
   nonce_unfit h = rw (ne_eqb _ _ h)
 
   pub nonce_made : length fixed ≡ 12 → (made : List ℕ) (i : ℕ) → 12 ≤ i → Mixed fixed (frame_id offset) made i
-      → nonce_told (record { says = k.Made; nonce = made }) ≡ outcome (nonce fixed offset)
+      → nonce_told (Ok made) ≡ outcome (nonce fixed offset)
   unfolding outcome unless refusal wire.nonce
   nonce_made e made i h m =
-      ap (λ l. nonce_told (record { says = k.Made; nonce = l })) whole ∙ (rw (eq-eqb _ _ e))
+      ap (λ l. nonce_told (Ok l)) whole ∙ (rw (eq-eqb _ _ e))
     where
       whole : made ≡ xor_bytes (frame_id offset) fixed
       whole =

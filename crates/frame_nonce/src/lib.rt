@@ -6,7 +6,7 @@ ghost use Rattle.wire.specs.Frame.{frame_id};
 ghost use Rattle.frame_layout.specs.Calls.{Ask, outcome};
 ghost use Rattle.frame_layout.specs.Answers.{nonce_told};
 
-use frame_layout::{NonceMade, NonceSays};
+use frame_layout::OtherLength;
 
 // The frame ID of a frame that begins at an offset.
 pub fn frame_id(offset: u64) -> [u8; 12]
@@ -18,23 +18,15 @@ pub fn frame_id(offset: u64) -> [u8; 12]
 }
 
 // The nonce of a frame that begins at an offset: its frame ID XOR the fixed nonce.
-pub fn nonce(fixed: &[u8], offset: u64) -> NonceMade
+pub fn nonce(fixed: &[u8], offset: u64) -> Result<[u8; 12], OtherLength>
     ensures { nonce_told result ≡ outcome (Ask.nonce fixed.now offset) }
 {
     if fixed.len() != 12 {
-        return NonceMade {
-            says: NonceSays::OtherLength,
-            nonce: [0u8; 12],
-        };
+        return Err(OtherLength);
     }
     let mut made = frame_id(offset);
-    let mut i = 0;
-    while i < 12 {
-        made[i] = made[i] ^ fixed[i];
-        i += 1;
+    for (i, x) in fixed.iter().enumerate() {
+        made[i] ^= x;
     }
-    NonceMade {
-        says: NonceSays::Made,
-        nonce: made,
-    }
+    Ok(made)
 }

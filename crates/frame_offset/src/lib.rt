@@ -5,21 +5,13 @@ ghost use Rattle.std.specs.Prelude.{◌≡◌};
 ghost use Rattle.frame_layout.specs.Calls.{Ask, outcome};
 ghost use Rattle.frame_layout.specs.Answers.{next_told};
 
-use frame_layout::NextOffset;
-
 // The offset after a frame: header and ciphertext.
-pub fn next_offset(offset: u64, clen: usize) -> NextOffset
+#[tactic(auto, using(crate::proofs::Next::next_short, crate::proofs::Next::next_long, crate::proofs::Next::next_sum))]
+pub fn next_offset(offset: u64, clen: usize) -> Option<u64>
     ensures { next_told result ≡ outcome (Ask.next offset clen) }
 {
-    if clen < 17 {
-        return NextOffset::NoFrame;
+    match clen {
+        17..=65535 => offset.checked_add(3 + clen as u64),
+        _ => None,
     }
-    if 65535 < clen {
-        return NextOffset::NoFrame;
-    }
-    let frame = 3 + clen as u64;
-    if 0xffff_ffff_ffff_ffff - frame < offset {
-        return NextOffset::NoFrame;
-    }
-    NextOffset::Next(offset + frame)
 }

@@ -1,5 +1,5 @@
 -- Laws of plaintexts: each way out of writing and reading one. Assumes nothing.
-use Prim.Native.Nat.{ℕ, suc, ◌+◌, ◌/◌, ◌%◌, ◌≤◌, ◌<◌}
+use Prim.Native.Nat.{ℕ, suc, ◌+◌, ◌*◌, ◌/◌, ◌%◌, ◌≤◌, ◌<◌}
 use mathlib.Core.Path.{◌≡◌, refl, sym, ◌∙◌, ap, ap₂}
 use mathlib.Core.List.{List, [], ◌∷◌}
 use mathlib.Core.Bool.{Bool, true, false}
@@ -17,25 +17,16 @@ use Rattle.frame_layout.proofs.LayoutLaws.{sent_urg}
 use Rattle.frame_layout.specs.Outcome.{unless}
 use Rattle.frame_layout.specs.Calls.{write_plaintext, read_plaintext, plaintext_in, plaintext_out, no_plaintext, outcome}
 use Rattle.frame_layout.specs.Answers.{plaintext_written, plaintext_told}
-use Rattle.frame_layout.specs.declared.PlaintextWritten.TheVariants as p
-use Rattle.frame_layout.specs.declared.PlaintextRead.TheVariants as r
+use Rattle.frame_layout.specs.declared.PlaintextWriteRefusal.TheVariants as p
+use Rattle.std.specs.Prelude.{Ok, Err}
+use mir.Val.{bool_byte as from_bool}
 
-module _ (fin urg : Bool) where
-  pub flags_3 : fin ≡ true → urg ≡ true → 3 ≡ flags_sent fin urg
-  unfolding flags_sent
-  flags_3 d e = rw (d, e)
-
-  pub flags_1 : fin ≡ true → urg ≡ false → 1 ≡ flags_sent fin urg
-  unfolding flags_sent
-  flags_1 d e = rw (d, e)
-
-  pub flags_2 : fin ≡ false → urg ≡ true → 2 ≡ flags_sent fin urg
-  unfolding flags_sent
-  flags_2 d e = rw (d, e)
-
-  pub flags_0 : fin ≡ false → urg ≡ false → 0 ≡ flags_sent fin urg
-  unfolding flags_sent
-  flags_0 d e = rw (d, e)
+pub flags_are : (fin urg : Bool) → from_bool fin + 2 * from_bool urg ≡ flags_sent fin urg
+unfolding flags_sent
+flags_are true true = refl
+flags_are true false = refl
+flags_are false true = refl
+flags_are false false = refl
 
 pub heading_long : (urg : Bool) → urg ≡ true → (3 ≡ heading_length urg) × (3 ≤ 3)
 unfolding heading_length
@@ -89,12 +80,12 @@ module _ (fin urg : Bool) (urgent : ℕ) where
         d ∙ (ap₂ (λ l i. pasted l i payload) q x ∙ pasted_twice s (heading (flags_sent fin urg) urgent) payload 0 (omega arith))
 
     module _ (n : ℕ) (long : n ≡ heading_length urg) where
-      pub plaintext_over : length s < n + length payload → plaintext_written p.NoRoom s ≡ outcome (write_plaintext fin urg urgent payload s)
+      pub plaintext_over : length s < n + length payload → plaintext_written (Err p.NoRoom) s ≡ outcome (write_plaintext fin urg urgent payload s)
       unfolding outcome unless refusal
       plaintext_over h = let over : length s < length whole = omega (arith, plaintext_length) in rw (lt-ltb _ _ over)
 
       module _ (room : n + length payload ≤ length s) where
-        pub plaintext_long : 65519 < n + length payload → plaintext_written p.TooLong s ≡ outcome (write_plaintext fin urg urgent payload s)
+        pub plaintext_long : 65519 < n + length payload → plaintext_written (Err p.TooLong) s ≡ outcome (write_plaintext fin urg urgent payload s)
         unfolding outcome unless refusal most_plaintext
         plaintext_long h =
             let fits : length whole ≤ length s = omega (arith, plaintext_length) in
@@ -102,30 +93,30 @@ module _ (fin urg : Bool) (urgent : ℕ) where
             rw (le-ltb _ _ fits, lt-ltb _ _ over)
 
         pub plaintext_put : n + length payload ≤ 65519 → (t u : List ℕ) (m : ℕ) → m ≡ n + length payload → t ≡ pasted s 0 (heading (flags_sent fin urg) urgent) → u ≡ pasted t n payload
-            → plaintext_written (p.Wrote m) u ≡ outcome (write_plaintext fin urg urgent payload s)
+            → plaintext_written (Ok m) u ≡ outcome (write_plaintext fin urg urgent payload s)
         unfolding outcome unless refusal most_plaintext plaintext_out
         plaintext_put h t u m e q d =
             let fits : length whole ≤ length s = omega (arith, plaintext_length) in
             let short : length whole ≤ 65519 = omega (arith, plaintext_length) in
             let x : m ≡ length whole = omega (arith, plaintext_length) in
-            ap₂ (λ y l. plaintext_written (p.Wrote y) l) x (plaintext_pasted n t u long room q d) ∙ (rw (le-ltb _ _ fits, le-ltb _ _ short))
+            ap₂ (λ y l. plaintext_written (Ok y) l) x (plaintext_pasted n t u long room q d) ∙ (rw (le-ltb _ _ fits, le-ltb _ _ short))
 
 -- reading a plaintext
 module _ (s : List ℕ) where
-  pub plaintext_none : length s ≡ 0 → plaintext_told r.Short ≡ outcome (read_plaintext s)
+  pub plaintext_none : length s ≡ 0 → plaintext_told (Err (record {})) ≡ outcome (read_plaintext s)
   unfolding outcome unless refusal no_plaintext
   plaintext_none e = rw (eq-eqb _ _ e)
 
   module _ (some : length s ≡ 0 → ⊥) where
-    pub plaintext_bare : (get_or s 0 0 / 2 % 2 ≡ 1 → ⊥) → plaintext_told (r.Plaintext (bit0 (get_or s 0 0)) false 0 1) ≡ outcome (read_plaintext s)
+    pub plaintext_bare : (get_or s 0 0 / 2 % 2 ≡ 1 → ⊥) → plaintext_told (Ok (record { fin = bit0 (get_or s 0 0); urg = false; urgent = 0; data_at = 1 })) ≡ outcome (read_plaintext s)
     unfolding outcome unless refusal no_plaintext plaintext_in heading_length bit1
     plaintext_bare h = simp (ne_eqb _ _ some, ne_eqb _ _ h)
 
     module _ (urg : get_or s 0 0 / 2 % 2 ≡ 1) where
-      pub plaintext_short : length s < 3 → plaintext_told r.Short ≡ outcome (read_plaintext s)
+      pub plaintext_short : length s < 3 → plaintext_told (Err (record {})) ≡ outcome (read_plaintext s)
       unfolding outcome unless refusal no_plaintext bit1
       plaintext_short h = simp (ne_eqb _ _ some, eq-eqb _ _ urg, lt-ltb _ _ h)
 
-      pub plaintext_urg : 3 ≤ length s → (urgent : ℕ) → urgent ≡ number_at 2 s 1 → plaintext_told (r.Plaintext (bit0 (get_or s 0 0)) true urgent 3) ≡ outcome (read_plaintext s)
+      pub plaintext_urg : 3 ≤ length s → (urgent : ℕ) → urgent ≡ number_at 2 s 1 → plaintext_told (Ok (record { fin = bit0 (get_or s 0 0); urg = true; urgent = urgent; data_at = 3 })) ≡ outcome (read_plaintext s)
       unfolding outcome unless refusal no_plaintext plaintext_in heading_length bit1
       plaintext_urg h urgent e = simp (ne_eqb _ _ some, eq-eqb _ _ urg, le-ltb _ _ h, e)

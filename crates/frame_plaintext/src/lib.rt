@@ -7,25 +7,18 @@ ghost use Rattle.frame_layout.specs.Layout.{flags_sent, heading, heading_length}
 ghost use Rattle.frame_layout.specs.Calls.{Ask, outcome};
 ghost use Rattle.frame_layout.specs.Answers.{plaintext_written, plaintext_told};
 
-use frame_layout::{PlaintextRead, PlaintextWritten};
+use frame_layout::{Plaintext, PlaintextWriteRefusal, TooShort};
 
 // The flags that are sent.
+#[tactic(auto, using(crate::proofs::Plaintexts::flags_are))]
 fn flags_sent(fin: bool, urg: bool) -> u8
     ensures { result ≡ flags_sent fin urg }
 {
-    if fin {
-        if urg {
-            return 3;
-        }
-        return 1;
-    }
-    if urg {
-        return 2;
-    }
-    0
+    u8::from(fin) + 2 * u8::from(urg)
 }
 
 // How many bytes stand before the data.
+#[tactic(auto, unfolding(frame_layout::specs::Layout::heading_length))]
 fn heading_length(urg: bool) -> usize
     ensures { (result ≡ heading_length urg) × (result ≤ 3) }
 {
@@ -37,66 +30,59 @@ fn put_heading(s: &mut [u8], fin: bool, urg: bool, urgent: u16)
     requires { heading_length urg ≤ length s.old }
     ensures { s.new ≡ pasted s.old 0 (heading (flags_sent fin urg) urgent) }
 {
-    let flags = flags_sent(fin, urg);
-    let one = [flags];
-    wire::copy(s, 0, &one);
-    if !urg {
-        return;
+    wire::copy(s, 0, &[flags_sent(fin, urg)]);
+    if urg {
+        wire_numbers::write_u16(s, 1, urgent);
     }
-    wire_numbers::write_u16(s, 1, urgent);
 }
 
-// Writes a plaintext, whose data field is the payload; the urgent field is written only with URGp.
+// Writes a plaintext, whose data field is the payload; the urgent field is written only with URGp. Gives how many bytes were written.
 pub fn write_plaintext(
     fin: bool,
     urg: bool,
     urgent: u16,
     payload: &[u8],
     out: &mut [u8],
-) -> PlaintextWritten
+) -> Result<usize, PlaintextWriteRefusal>
     ensures { plaintext_written result out.new ≡ outcome (Ask.write_plaintext fin urg urgent payload.now out.old) }
 {
     let n = heading_length(urg);
-    if out.len() < n {
-        return PlaintextWritten::NoRoom;
+    if out.len() < n || out.len() - n < payload.len() {
+        return Err(PlaintextWriteRefusal::NoRoom);
     }
-    if out.len() - n < payload.len() {
-        return PlaintextWritten::NoRoom;
-    }
-    if 65519 - n < payload.len() {
-        return PlaintextWritten::TooLong;
+    let size = n + payload.len();
+    if 65519 < size {
+        return Err(PlaintextWriteRefusal::TooLong);
     }
     put_heading(out, fin, urg, urgent);
     wire::copy(out, n, payload);
-    PlaintextWritten::Wrote(n + payload.len())
+    Ok(size)
 }
 
 // Reads a plaintext.
-pub fn read_plaintext(bytes: &[u8]) -> PlaintextRead
+pub fn read_plaintext(bytes: &[u8]) -> Result<Plaintext, TooShort>
     ensures { plaintext_told result ≡ outcome (Ask.read_plaintext bytes.now) }
 {
-    let n = bytes.len();
-    if n == 0 {
-        return PlaintextRead::Short;
+    if bytes.is_empty() {
+        return Err(TooShort);
     }
     let flags = bytes[0];
     let fin = flags % 2 == 1;
     if flags / 2 % 2 != 1 {
-        return PlaintextRead::Plaintext {
+        return Ok(Plaintext {
             fin,
             urg: false,
             urgent: 0,
             data_at: 1,
-        };
+        });
     }
-    if n < 3 {
-        return PlaintextRead::Short;
+    if bytes.len() < 3 {
+        return Err(TooShort);
     }
-    let urgent = wire_numbers::read_u16(bytes, 1);
-    PlaintextRead::Plaintext {
+    Ok(Plaintext {
         fin,
         urg: true,
-        urgent,
+        urgent: wire_numbers::read_u16(bytes, 1),
         data_at: 3,
-    }
+    })
 }

@@ -1,5 +1,5 @@
 -- Runs of generation records, worked out: one table and one claim about all rows, closed by computation.
-use Rattle.std.specs.Prelude.{◌≡◌, refl, ◌∷◌, map}
+use Rattle.std.specs.Prelude.{◌≡◌, refl, map}
 use Rattle.refusals.specs.Rows.{refusal}
 use Rattle.generation.specs.Steps.{first, most_generation, is_above, owed, sending, raised, following, receiving, unless, would_pass, outcome}
 use Rattle.generation.specs.Connection.{after}

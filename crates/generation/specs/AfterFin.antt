@@ -1,6 +1,5 @@
 -- Change request (iii): after FINp nothing is owed. Document 01's rule as it was first written, and what moved. Assumes nothing.
-use Rattle.std.specs.Prelude.{◌+◌, ◌≡◌, [], ◌∷◌, true, cond, not, ◌&&◌, ◌⊎◌}
-use Rattle.std.proofs.Common.{◌∙◌}
+use Rattle.std.specs.Prelude.{◌≡◌, [], ◌∷◌, true, cond, not, ◌&&◌}
 use Rattle.std.proofs.Math.Dec.{ltb}
 use Rattle.refusals.specs.Rows.{refusal}
 use Rattle.generation.specs.Steps.{refused, Outcome, Ask, send, initiate, receive, is_above, sending, raised, receiving, unless, would_pass, outcome}

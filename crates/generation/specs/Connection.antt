@@ -1,6 +1,5 @@
 -- Laws of a connection, over every list of steps from the first record. Assumes nothing.
-use Rattle.std.specs.Prelude.{ℕ, ◌+◌, ◌≤◌, ◌<◌, ◌≡◌, List, [], ◌∷◌, ◌++◌, Bool, true, false, cond, ◌&&◌}
-use Rattle.std.proofs.Common.{◌∙◌}
+use Rattle.std.specs.Prelude.{ℕ, ◌+◌, ◌≤◌, ◌≡◌, List, [], ◌∷◌, ◌++◌, Bool, true, false, cond}
 use Rattle.generation.specs.Steps.{Reply, refused, sent, received, Ask, send, initiate, receive, first, most_generation, outcome}
 use Rattle.generation.specs.declared.GenerationRecord.{GenerationRecord}
 

@@ -1,5 +1,5 @@
 -- Local from above: what one step makes of it, for every record. Assumes nothing.
-use Rattle.std.specs.Prelude.{◌+◌, ◌≤◌, ◌<◌, ◌≡◌, Bool, true, false, ◌⊎◌}
+use Rattle.std.specs.Prelude.{◌+◌, ◌≤◌, ◌<◌, ◌≡◌, Bool, true, false}
 use Rattle.generation.specs.Steps.{Reply, refused, sent, received, Outcome, Ask, send, initiate, receive}
 use Rattle.generation.specs.declared.GenerationRecord.{GenerationRecord}
 

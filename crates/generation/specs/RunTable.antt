@@ -1,5 +1,5 @@
 -- Runs of generation records, worked out: one table and one claim about all rows, closed by computation.
-use Rattle.std.specs.Prelude.{ℕ, ◌≡◌, List, [], ◌∷◌, Bool, true, false}
+use Rattle.std.specs.Prelude.{ℕ, List, [], ◌∷◌, Bool, true, false}
 use Rattle.generation.specs.Steps.{Reply, refused, sent, received, Ask, send, initiate, receive, first, outcome}
 use Rattle.generation.specs.Connection.{after}
 use Rattle.generation.specs.declared.GenerationRecord.{GenerationRecord}

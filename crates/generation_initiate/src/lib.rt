@@ -5,53 +5,38 @@ ghost use Rattle.std.specs.Prelude.{◌≡◌, ◌&&◌, not, ltb};
 ghost use Rattle.generation.specs.Steps.{Ask, outcome};
 ghost use Rattle.generation.specs.Answers.{step_of};
 
-use generation::{GenerationRecord, GenerationReply, GenerationStep};
+use generation::{GenerationRecord, GenerationRefusal, GenerationStep};
 
 // Whether initiating without data would come before the other side followed.
 fn is_unanswered(g: GenerationRecord, has_data: bool) -> bool
     ensures { result ≡ not has_data && ltb g.remote g.local }
 {
-    if has_data {
-        return false;
-    }
-    g.remote < g.local
+    !has_data && g.remote < g.local
 }
 
 // Initiates rekeying: one more generation, and one frame, with data or without, with FINp or without.
-pub fn initiate(g: GenerationRecord, has_data: bool, fin: bool) -> GenerationStep
-    ensures { step_of result ≡ outcome g (Ask.initiate has_data fin) }
+pub fn initiate(
+    g: GenerationRecord,
+    has_data: bool,
+    fin: bool,
+) -> Result<GenerationStep, GenerationRefusal>
+    ensures { step_of g result ≡ outcome g (Ask.initiate has_data fin) }
 {
     if generation_record::is_owed(g) {
-        return GenerationStep {
-            next: g,
-            reply: GenerationReply::Owed,
-        };
+        return Err(GenerationRefusal::Owed);
     }
     if 65535 <= g.local {
-        return GenerationStep {
-            next: g,
-            reply: GenerationReply::PastLast,
-        };
+        return Err(GenerationRefusal::PastLast);
     }
-    let finished = g.fin;
-    if finished {
-        return GenerationStep {
-            next: g,
-            reply: GenerationReply::Finished,
-        };
+    if g.fin {
+        return Err(GenerationRefusal::Finished);
     }
     if is_unanswered(g, has_data) {
-        return GenerationStep {
-            next: g,
-            reply: GenerationReply::Unanswered,
-        };
+        return Err(GenerationRefusal::Unanswered);
     }
-    let local = g.local + 1;
     let raised = GenerationRecord {
-        local,
-        remote: g.remote,
-        last: g.last,
-        fin: g.fin,
+        local: g.local + 1,
+        ..g
     };
-    generation_send::send_one(raised, fin)
+    Ok(generation_send::send_one(raised, fin))
 }

@@ -3,34 +3,40 @@
 
 ghost use Rattle.std.specs.Prelude.{◌≡◌};
 ghost use Rattle.generation.specs.Steps.{Ask, outcome};
-ghost use Rattle.generation.specs.Answers.{step_of};
+ghost use Rattle.generation.specs.Answers.{lent};
 
-use generation::{GenerationRecord, GenerationStep};
+use generation::{GenerationRecord, GenerationRefusal, GenerationReply};
 use generation_lent::{initiate_rekey, receive_frame, send_frame};
 
+// The record as a step on it left it, lent, with the step's answer.
+#[derive(Clone, Copy, Debug, PartialEq, Eq)]
+pub struct Returned {
+    pub next: GenerationRecord,
+    pub reply: Result<GenerationReply, GenerationRefusal>,
+}
+
+// The three functions share two lines: one function that takes the step as a closure would need a clause on the closure and one by `post`, and be no plainer.
+
 // Lends the record to `send_frame`.
-pub fn lend_to_send(g: GenerationRecord, fin: bool) -> GenerationStep
-    ensures { step_of result ≡ outcome g (Ask.send fin) }
+pub fn lend_to_send(mut g: GenerationRecord, fin: bool) -> Returned
+    ensures { lent result.reply result.next ≡ outcome g (Ask.send fin) }
 {
-    let mut held = g;
-    let reply = send_frame(&mut held, fin);
-    GenerationStep { next: held, reply }
+    let reply = send_frame(&mut g, fin);
+    Returned { next: g, reply }
 }
 
 // Lends the record to `initiate_rekey`.
-pub fn lend_to_initiate(g: GenerationRecord, has_data: bool, fin: bool) -> GenerationStep
-    ensures { step_of result ≡ outcome g (Ask.initiate has_data fin) }
+pub fn lend_to_initiate(mut g: GenerationRecord, has_data: bool, fin: bool) -> Returned
+    ensures { lent result.reply result.next ≡ outcome g (Ask.initiate has_data fin) }
 {
-    let mut held = g;
-    let reply = initiate_rekey(&mut held, has_data, fin);
-    GenerationStep { next: held, reply }
+    let reply = initiate_rekey(&mut g, has_data, fin);
+    Returned { next: g, reply }
 }
 
 // Lends the record to `receive_frame`.
-pub fn lend_to_receive(g: GenerationRecord, rekey: bool) -> GenerationStep
-    ensures { step_of result ≡ outcome g (Ask.receive rekey) }
+pub fn lend_to_receive(mut g: GenerationRecord, rekey: bool) -> Returned
+    ensures { lent result.reply result.next ≡ outcome g (Ask.receive rekey) }
 {
-    let mut held = g;
-    let reply = receive_frame(&mut held, rekey);
-    GenerationStep { next: held, reply }
+    let reply = receive_frame(&mut g, rekey);
+    Returned { next: g, reply }
 }

@@ -19,10 +19,9 @@ pub fn first_record() -> GenerationRecord
 }
 
 // Whether a rekey frame is owed.
+#[tactic(auto, unfolding(generation::specs::Steps::owed, generation::specs::Steps::is_above))]
 pub fn is_owed(g: GenerationRecord) -> bool
     ensures { result ≡ owed g }
 {
-    let finished = g.fin;
-    let above = g.last < g.local;
-    if above { !finished } else { false }
+    g.last < g.local && !g.fin
 }

@@ -1,54 +1,35 @@
 // Rekeying: a frame is sent.
 #![tactic(auto)]
 
-ghost use Rattle.std.specs.Prelude.{◌≡◌};
+ghost use Rattle.std.specs.Prelude.{◌≡◌, Ok};
 ghost use Rattle.generation.specs.Steps.{Ask, sending, outcome};
 ghost use Rattle.generation.specs.Answers.{step_of};
 
-use generation::{GenerationRecord, GenerationReply, GenerationStep};
+use generation::{GenerationRecord, GenerationRefusal, GenerationReply, GenerationStep};
 
 // One frame is sent; FINp was not sent before.
+#[tactic(auto, using(crate::proofs::Ways::one_fits, crate::proofs::Ways::one_is))]
 pub fn send_one(g: GenerationRecord, fin: bool) -> GenerationStep
-    ensures { step_of result ≡ sending g fin }
+    ensures { step_of g (Ok result) ≡ sending g fin }
 {
-    if g.last < g.local {
-        let generation = g.last + 1;
-        return GenerationStep {
-            next: GenerationRecord {
-                local: g.local,
-                remote: g.remote,
-                last: generation,
-                fin,
-            },
-            reply: GenerationReply::Sent {
-                generation,
-                rekey: true,
-            },
-        };
-    }
+    let rekey = g.last < g.local;
+    let generation = g.last + u16::from(rekey);
     GenerationStep {
         next: GenerationRecord {
-            local: g.local,
-            remote: g.remote,
-            last: g.last,
+            last: generation,
             fin,
+            ..g
         },
-        reply: GenerationReply::Sent {
-            generation: g.last,
-            rekey: false,
-        },
+        reply: GenerationReply::Sent { generation, rekey },
     }
 }
 
 // Sends one frame, with FINp or without.
-pub fn send(g: GenerationRecord, fin: bool) -> GenerationStep
-    ensures { step_of result ≡ outcome g (Ask.send fin) }
+pub fn send(g: GenerationRecord, fin: bool) -> Result<GenerationStep, GenerationRefusal>
+    ensures { step_of g result ≡ outcome g (Ask.send fin) }
 {
     if g.fin {
-        return GenerationStep {
-            next: g,
-            reply: GenerationReply::Finished,
-        };
+        return Err(GenerationRefusal::Finished);
     }
-    send_one(g, fin)
+    Ok(send_one(g, fin))
 }

@@ -1,5 +1,5 @@
 -- The constants of SHA-256 (FIPS 180-4, 4.2.2 and 5.3.3), and that they are what the standard says of them: bits of roots of the first primes.
-use Rattle.std.specs.Prelude.{◌*◌, ◌+◌, ◌%◌, ◌^◌, ◌≡◌, refl, [], ◌∷◌, ◌++◌, true, ◌&&◌, ◌||◌, take}
+use Rattle.std.specs.Prelude.{◌≡◌, refl, [], ◌∷◌, true, take}
 use Rattle.hash_layout.specs.Constants.{k256, initial, divided, primes_below, root, fraction, every, primes}
 
 -- K: the first 32 bits of the fractional parts of the cube roots of the first 64 primes

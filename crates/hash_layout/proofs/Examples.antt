@@ -1,5 +1,5 @@
 -- Worked examples, by computing: FIPS 180-4's `abc`, and the limits of row 17 on either side. The dearer ones are in hash_examples.
-use Rattle.std.specs.Prelude.{◌+◌, ◌-◌, ◌^◌, ◌≡◌, refl, [], ◌∷◌, ◌++◌, true, false}
+use Rattle.std.specs.Prelude.{◌-◌, ◌^◌, ◌≡◌, refl, [], ◌∷◌, true, false}
 use Rattle.wire.specs.Number.{big_endian}
 use Rattle.hash_layout.specs.Constants.{k256, initial}
 use Rattle.hash_layout.specs.Sha256.{ch, maj, big_sigma0, big_sigma1, sigma0, sigma1, zeros, padded, word, word_of, schedule, temp1, temp2, round_of, rounds, plus, compressed, chained, bytes_of, sha256}

@@ -1,5 +1,5 @@
 -- The constants of SHA-256 (FIPS 180-4, 4.2.2 and 5.3.3), and that they are what the standard says of them: bits of roots of the first primes.
-use Rattle.std.specs.Prelude.{ℕ, zero, suc, ◌*◌, ◌+◌, ◌%◌, ◌^◌, ◌≡◌, List, [], ◌∷◌, ◌++◌, Bool, true, false, cond, ◌&&◌, ◌||◌, ltb, leb, eqb}
+use Rattle.std.specs.Prelude.{ℕ, zero, suc, ◌*◌, ◌+◌, ◌%◌, ◌^◌, List, [], ◌∷◌, ◌++◌, Bool, true, false, cond, ◌&&◌, ◌||◌, ltb, leb, eqb}
 use Rattle.hash_layout.specs.declared.Words.{Words}
 
 -- 4.2.2: K

@@ -1,8 +1,5 @@
 -- Demand 1 for hashes: a refusal leaves the lent buffer as found, and a reply is `refused n` exactly when n is the least number that applies. Assumes nothing.
-use Prim.Native.Nat.{ℕ, ◌+◌, ◌/◌, ◌-◌, ◌^◌, ◌≤◌, ◌<◌}
-use Rattle.std.proofs.Math.Path.{◌≡◌}
-use Rattle.std.proofs.Common.{◌∙◌}
-use Rattle.std.specs.Prelude.{◌∷◌, ◌++◌, ◌&&◌, ◌||◌, ◌↔◌}
+use Prim.Native.Nat.{ℕ}
 use Rattle.std.proofs.Math.Option.{Option, none, some}
 use Rattle.hash_layout.specs.Outcome.{Reply, refused, made, written}
 

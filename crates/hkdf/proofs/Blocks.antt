@@ -10,13 +10,15 @@ use lib.Seq.{length-take-le, take_all, take-append-add}
 use Rattle.wire.specs.Bytes.{pasted}
 use Rattle.wire.specs.ByteLaws.{pasted_fits, pasted_twice, length_pasted}
 use Rattle.refusals.specs.Rows.{refusal}
-use Rattle.hash_layout.specs.declared.Hashed.{Hashed}
+use Rattle.std.specs.Prelude.{Result, Ok}
+use Rattle.hash_layout.specs.declared.TooLong.{TooLong}
+use Rattle.hash_layout.proofs.Answers.{hashed_tells}
 use Rattle.hash_layout.specs.Hmac.{hmac}
 use Rattle.hash_layout.specs.Hkdf.{hkdf_t, okm, hkdf_expand}
 use Rattle.hash_layout.proofs.Lengths.{length_okm}
-use Rattle.hash_layout.specs.Outcome.{Outcome, unless}
+use Rattle.hash_layout.specs.Outcome.{unless}
 use Rattle.hash_layout.specs.Calls.{mac, longest, too_long, mac_too_long, digest, outcome}
-use Rattle.hash_layout.specs.Answers.{hash_told}
+use Rattle.hash_layout.specs.Answers.{hash_told, hash_bytes}
 use Rattle.hkdf.specs.Expanding.{Fits, least_of}
 
 -- a MAC over few enough bytes is made
@@ -24,16 +26,20 @@ mac_is : (key text : List ℕ) → length key ≤ 64 → 64 + length text < 2 ^ 
 unfolding outcome unless refusal mac_too_long too_long longest
 mac_is key text h l = rw (le-ltb (2 ^ 61 - 1) (length key) (omega arith), le-ltb (2 ^ 61 - 1) (64 + length text) (omega arith))
 
-pub block_made : (prk last info c : List ℕ) (r : Hashed) (d : List ℕ) → length prk ≤ 64 → 64 + (length last + (length info + length c)) < 2 ^ 61
-    → hash_told r ≡ outcome (mac prk (last ++ (info ++ (c ++ [])))) → d ≡ r.bytes → d ≡ hmac prk (last ++ (info ++ c))
+pub block_made : (prk last info c : List ℕ) (r : Result (List ℕ) TooLong) → length prk ≤ 64 → 64 + (length last + (length info + length c)) < 2 ^ 61
+    → hash_told r ≡ outcome (mac prk (last ++ (info ++ (c ++ [])))) → r ≡ Ok (hmac prk (last ++ (info ++ c)))
 unfolding digest
-block_made prk last info c r d h l e ed =
+block_made prk last info c r h l e =
     let n : length (last ++ (info ++ (c ++ []))) ≡ length last + (length info + length c) =
     length-append last (info ++ (c ++ []))
     ∙ ap (λ k. length last + k) (length-append info (c ++ []) ∙ ap (λ k. length info + k) (ap length (append-nil c)))
     in
-    ed ∙ (ap (λ (x : Outcome). x.bytes) (e ∙ mac_is prk (last ++ (info ++ (c ++ []))) h (omega arith))
-    ∙ ap (λ (x : List ℕ). hmac prk (last ++ (info ++ x))) (append-nil c))
+    hashed_tells r (Ok (hmac prk (last ++ (info ++ c))))
+    (e ∙ (mac_is prk (last ++ (info ++ (c ++ []))) h (omega arith)
+    ∙ ap (λ (x : List ℕ). hash_told (Ok (hmac prk (last ++ (info ++ x))))) (append-nil c)))
+
+pub ok_bytes : (d e : List ℕ) → ◌≡◌ {A = Result (List ℕ) TooLong} (Ok d) (Ok e) → d ≡ e
+ok_bytes d e p = ap hash_bytes p
 
 -- how many bytes of a block are written
 pub least_full : (n : ℕ) → 32 < n → 32 ≡ least_of n

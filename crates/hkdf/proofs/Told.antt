@@ -1,7 +1,7 @@
 -- What extract and expand give back. Assumes nothing.
 use Prim.Native.Nat.{ℕ, ◌+◌, ◌-◌, ◌^◌, ◌≤◌, ◌<◌}
 use mathlib.Core.Path.{◌≡◌, refl, sym, ◌∙◌, ap₂}
-use mathlib.Core.List.{List, []}
+use mathlib.Core.List.{List}
 use mathlib.Core.Bool.{Bool, true, false, ◌&&◌, ◌||◌, true≢false}
 use native.Mathlib.Omega.{arith}
 use borrow.Author.Tests.{lt-ltb, le-ltb, eq-eqb, ne_eqb, ltb-false}
@@ -9,32 +9,26 @@ use lib.Dec.{ltb}
 use lib.ListN.{length}
 use Rattle.wire.specs.Bytes.{pasted}
 use Rattle.refusals.specs.Rows.{refusal}
-use Rattle.hash_layout.specs.declared.HashSays.TheVariants as h
-use Rattle.hash_layout.specs.declared.Hashed.{Hashed}
+use Rattle.std.specs.Prelude.{Result, Ok, Err}
+use native.Mathlib.Decide.{dec_lt}
+use Rattle.hash_layout.specs.declared.TooLong.{TooLong}
 use Rattle.hash_layout.specs.Hkdf.{hkdf_extract, hkdf_expand}
 use Rattle.hash_layout.proofs.Lengths.{length_expand}
-use Rattle.hash_layout.specs.Outcome.{Outcome, Reply, unless}
+use Rattle.hash_layout.specs.Outcome.{unless}
 use Rattle.hash_layout.specs.Calls.{mac, extract, expand, longest, too_long, most_expanded, expand_too_long, expanded, outcome}
-use Rattle.hash_layout.specs.Answers.{hash_reply, hash_told}
-use Rattle.hkdf_interface.specs.declared.ExtractSays.TheVariants as k
-use Rattle.hkdf_interface.specs.declared.Extracted.{Extracted}
-use Rattle.hkdf_interface.specs.declared.ExpandSays.TheVariants as w
+use Rattle.hash_layout.specs.Answers.{hash_told}
+use Rattle.hkdf_interface.specs.declared.ExpandRefusal.TheVariants as w
 use Rattle.hkdf_interface.specs.Answers.{extract_told, expand_told}
 use Rattle.hkdf.specs.Expanding.{Fits}
 
-abbrev outcome_of : Reply → List ℕ → Outcome
-outcome_of x d = record { reply = x; bytes = d; buffer = [] }
-
-pub made_told : (r : Hashed) (d : List ℕ) → d ≡ r.bytes → r.says ≡ h.Made → extract_told (record { says = k.Made; bytes = d }) ≡ hash_told r
-made_told r d ed es = ap₂ (λ x y. outcome_of (hash_reply x) y) (sym es) ed
-
-pub long_told : (r : Hashed) (d : List ℕ) → d ≡ r.bytes → r.says ≡ h.TooLong → extract_told (record { says = k.TooLong; bytes = d }) ≡ hash_told r
-long_told r d ed es = ap₂ (λ x y. outcome_of (hash_reply x) y) (sym es) ed
-
 -- extract is a MAC with the salt as its key
-pub extract_told_lem : (salt ikm : List ℕ) (r : Hashed) (x : Extracted) → hash_told r ≡ outcome (mac salt ikm) → extract_told x ≡ hash_told r → extract_told x ≡ outcome (extract salt ikm)
+extract_is : (r : Result (List ℕ) TooLong) → extract_told r ≡ hash_told r
+extract_is (Ok d) = refl
+extract_is (Err e) = refl
+
+pub extract_told_lem : (salt ikm : List ℕ) (r : Result (List ℕ) TooLong) → hash_told r ≡ outcome (mac salt ikm) → extract_told r ≡ outcome (extract salt ikm)
 unfolding outcome hkdf_extract
-extract_told_lem salt ikm r x e f = f ∙ e
+extract_told_lem salt ikm r e = extract_is r ∙ e
 
 and_no : (a : Bool) → a && false ≡ false
 and_no true = refl
@@ -54,21 +48,19 @@ module _ (info size : ℕ) where
   long_over h = rw (lt-ltb 8160 size h)
 
   module _ (most : size ≤ 8160) where
-    pub long_more : 32 < size → 2 ^ 61 - 98 < info → true ≡ expand_too_long info size
+    pub more_is : 32 < size → ltb (2 ^ 61 - 98) info ≡ expand_too_long info size
     unfolding expand_too_long most_expanded too_long longest
-    long_more h l = rw (le-ltb 8160 size most, lt-ltb 32 size h, lt-ltb (2 ^ 61 - 1) (97 + info) (omega arith)) (sym (or_yes (ltb 0 size && ltb (2 ^ 61 - 1) (65 + info))))
+    more_is h = elim (dec_lt (2 ^ 61 - 98) info) [
+      | yes l ↦ rw (le-ltb 8160 size most, lt-ltb 32 size h, lt-ltb (2 ^ 61 - 98) info l, lt-ltb (2 ^ 61 - 1) (97 + info) (omega arith)) (sym (or_yes (ltb 0 size && ltb (2 ^ 61 - 1) (65 + info))))
+      | no l ↦ rw (le-ltb 8160 size most, le-ltb (2 ^ 61 - 98) info (omega arith), le-ltb (2 ^ 61 - 1) (97 + info) (omega arith), le-ltb (2 ^ 61 - 1) (65 + info) (omega arith), and_no (ltb 0 size), and_no (ltb 32 size))
+    ]
 
-    pub fits_more : 32 < size → info ≤ 2 ^ 61 - 98 → false ≡ expand_too_long info size
+    pub first_is : size ≤ 32 → 0 < size → ltb (2 ^ 61 - 66) info ≡ expand_too_long info size
     unfolding expand_too_long most_expanded too_long longest
-    fits_more h l = rw (le-ltb 8160 size most, le-ltb (2 ^ 61 - 1) (97 + info) (omega arith), le-ltb (2 ^ 61 - 1) (65 + info) (omega arith), and_no (ltb 0 size), and_no (ltb 32 size))
-
-    pub long_first : size ≤ 32 → 0 < size → 2 ^ 61 - 66 < info → true ≡ expand_too_long info size
-    unfolding expand_too_long most_expanded too_long longest
-    long_first u h l = rw (le-ltb 8160 size most, lt-ltb 0 size h, lt-ltb (2 ^ 61 - 1) (65 + info) (omega arith))
-
-    pub fits_first : size ≤ 32 → info ≤ 2 ^ 61 - 66 → false ≡ expand_too_long info size
-    unfolding expand_too_long most_expanded too_long longest
-    fits_first u l = rw (le-ltb 8160 size most, le-ltb 32 size u, le-ltb (2 ^ 61 - 1) (65 + info) (omega arith), and_no (ltb 0 size))
+    first_is u h = elim (dec_lt (2 ^ 61 - 66) info) [
+      | yes l ↦ rw (le-ltb 8160 size most, lt-ltb 0 size h, lt-ltb (2 ^ 61 - 66) info l, lt-ltb (2 ^ 61 - 1) (65 + info) (omega arith))
+      | no l ↦ rw (le-ltb 8160 size most, le-ltb 32 size u, le-ltb (2 ^ 61 - 66) info (omega arith), le-ltb (2 ^ 61 - 1) (65 + info) (omega arith), and_no (ltb 0 size))
+    ]
 
     pub fits_none : size ≤ 0 → false ≡ expand_too_long info size
     unfolding expand_too_long most_expanded too_long longest
@@ -93,21 +85,21 @@ fits_of prk info size out e r f =
     }
 
 module _ (key info : List ℕ) (size : ℕ) (s : List ℕ) where
-  pub expand_unfit : (length key ≡ 32 → ⊥) → expand_told w.Unfit s ≡ outcome (expand key info size s)
+  pub expand_unfit : (length key ≡ 32 → ⊥) → expand_told (Err w.Unfit) s ≡ outcome (expand key info size s)
   unfolding outcome unless refusal
   expand_unfit e = rw (ne_eqb (length key) 32 e)
 
-  pub expand_no_room : length key ≡ 32 → length s < size → expand_told w.NoRoom s ≡ outcome (expand key info size s)
+  pub expand_no_room : length key ≡ 32 → length s < size → expand_told (Err w.NoRoom) s ≡ outcome (expand key info size s)
   unfolding outcome unless refusal
   expand_no_room e l = rw (eq-eqb (length key) 32 e, lt-ltb (length s) size l)
 
-  pub expand_long : length key ≡ 32 → size ≤ length s → expand_too_long (length info) size ≡ true → expand_told w.TooLong s ≡ outcome (expand key info size s)
+  pub expand_long : length key ≡ 32 → size ≤ length s → expand_too_long (length info) size ≡ true → expand_told (Err w.TooLong) s ≡ outcome (expand key info size s)
   unfolding outcome unless refusal
   expand_long e l f = rw (eq-eqb (length key) 32 e, le-ltb (length s) size l, f)
 
   pub expand_written : (o : List ℕ) → length key ≡ 32 → size ≤ length s → expand_too_long (length info) size ≡ false → o ≡ pasted s 0 (hkdf_expand key info size)
-      → expand_told (w.Written size) o ≡ outcome (expand key info size s)
+      → expand_told (Ok size) o ≡ outcome (expand key info size s)
   unfolding outcome unless refusal expanded
   expand_written o e l f eo =
       rw (eq-eqb (length key) 32 e, le-ltb (length s) size l, f)
-      (ap₂ (λ (n : ℕ) (d : List ℕ). expand_told (w.Written n) d) (sym (length_expand key info size)) eo)
+      (ap₂ (λ (n : ℕ) (d : List ℕ). expand_told (Ok n) d) (sym (length_expand key info size)) eo)

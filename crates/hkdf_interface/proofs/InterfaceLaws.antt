@@ -1,5 +1,5 @@
 -- Laws by which the promise is used: when extract and expand are refused, and what they give otherwise. Assumes nothing.
-use Rattle.std.specs.Prelude.{ℕ, ◌+◌, ◌≤◌, ◌<◌, ◌≡◌, refl, List, [], ◌++◌, Bool, true, false, ◌&&◌, ◌||◌, ltb}
+use Rattle.std.specs.Prelude.{ℕ, ◌+◌, ◌≤◌, ◌<◌, ◌≡◌, refl, List, [], ◌++◌, Bool, true, false, ◌&&◌, ltb}
 use Rattle.std.proofs.Common.{◌∙◌, ap, append-nil, arith, drop_of_length-le}
 use Rattle.std.proofs.Math.Decide.{dec_lt}
 use borrow.Author.Tests.{lt-ltb, le-ltb, eq-eqb}

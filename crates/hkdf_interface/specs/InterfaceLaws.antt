@@ -1,6 +1,5 @@
 -- Laws by which the promise is used: when extract and expand are refused, and what they give otherwise. Assumes nothing.
-use Rattle.std.specs.Prelude.{ℕ, ◌+◌, ◌≤◌, ◌<◌, ◌≡◌, List, [], ◌++◌, ◌&&◌, ◌||◌, replicate}
-use Rattle.std.proofs.Common.{◌∙◌}
+use Rattle.std.specs.Prelude.{ℕ, List, [], replicate}
 use Rattle.std.proofs.Math.ListN.{length}
 use Rattle.hkdf_interface.specs.Interface.{Outcome, refused, written}
 

@@ -1,23 +1,12 @@
 // HKDF as the crates above may know it: what extract and expand answer. The promise is specs/Interface.antt; the calls are in hkdf.
 #![tactic(auto)]
 
-#[derive(Clone, Copy)]
-pub enum ExtractSays {
-    Made,
-    TooLong,
-}
+// Why an extraction is refused: one of its hashes would be over more than 2^61 - 1 bytes.
+pub use hash_layout::TooLong;
 
-// An extracted key, zeros beside a refusal.
-#[derive(Clone, Copy)]
-pub struct Extracted {
-    pub says: ExtractSays,
-    pub bytes: [u8; 32],
-}
-
-// What an expansion answers: how many bytes it has written.
-#[derive(Clone, Copy)]
-pub enum ExpandSays {
-    Written(usize),
+// Why an expansion is refused: a key not of 32 bytes, a lent buffer that is too short, or more than 255 hash lengths or a hash over more than 2^61 - 1 bytes.
+#[derive(Clone, Copy, PartialEq, Eq)]
+pub enum ExpandRefusal {
     Unfit,
     NoRoom,
     TooLong,

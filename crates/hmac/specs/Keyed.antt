@@ -1,13 +1,10 @@
--- The MAC with a key's block (RFC 2104, 2, without the making of the block), and the outer one of its two hashes.
+-- The MAC with a key's block (RFC 2104, 2, without the making of the block).
 use Rattle.std.specs.Prelude.{ℕ, ◌+◌, List, [], ◌∷◌, ◌++◌, length, replicate}
 use Rattle.refusals.specs.Rows.{refusal}
-use Rattle.hash_layout.specs.declared.HashSays.{HashSays}
-use Rattle.hash_layout.specs.declared.HashSays.TheVariants as k
-use Rattle.hash_layout.specs.declared.Hashed.{Hashed}
 use Rattle.hash_layout.specs.Sha256.{sha256}
 use Rattle.hash_layout.specs.Hmac.{xor_all}
-use Rattle.hash_layout.specs.Outcome.{Outcome, refused, unless}
-use Rattle.hash_layout.specs.Calls.{too_long, digest, hash, outcome}
+use Rattle.hash_layout.specs.Outcome.{Outcome, unless}
+use Rattle.hash_layout.specs.Calls.{too_long, digest}
 
 unfoldable pub keyed : List ℕ → List ℕ → List ℕ
 keyed b text = sha256 (xor_all 0x5c b ++ sha256 (xor_all 0x36 b ++ text))
@@ -15,11 +12,3 @@ keyed b text = sha256 (xor_all 0x5c b ++ sha256 (xor_all 0x36 b ++ text))
 -- 17 where the inner hash is over too many bytes
 unfoldable pub keyed_outcome : List ℕ → List ℕ → Outcome
 keyed_outcome b text = unless (refusal ((too_long (64 + length text), 17) ∷ [])) (replicate 32 0) [] (digest (keyed b text))
-
--- the outer hash, by what the inner one says
-abbrev pub outer_by : List ℕ → List ℕ → HashSays → Outcome
-outer_by b d k.Made = outcome (hash (xor_all 0x5c b ++ d))
-outer_by b d k.TooLong = record { reply = refused 17; bytes = d; buffer = [] }
-
-abbrev pub outer_outcome : List ℕ → Hashed → Outcome
-outer_outcome b inner = outer_by b inner.bytes inner.says

@@ -1,3 +1,3 @@
--- HMAC in two steps: the MAC with a key's block, and its outer hash; and what a hash's answer says of the bytes beside it.
+-- HMAC with a key's block, and what a hash's answer says.
 pub mod Keyed
 pub mod Told

@@ -1,14 +1,13 @@
--- What the answer of a hash says: `Made` beside the bytes that were asked for, `TooLong` beside zeros. Assumes nothing.
-use Rattle.std.specs.Prelude.{ℕ, refl, List, [], ◌∷◌, Bool, replicate}
+-- What the answer of a hash says: `Ok` with the bytes that were asked for, or a refusal, beside which the papers have zeros. Assumes nothing.
+use Rattle.std.specs.Prelude.{ℕ, refl, List, [], ◌∷◌, Bool, Result, Ok, Err, replicate}
 use Rattle.std.proofs.Math.Path.{◌≡◌, ap}
 use Rattle.std.proofs.Common.{sym, ◌∙◌, arith}
 use Rattle.std.proofs.Math.Bool.{true, false}
 use Rattle.refusals.specs.Rows.{refusal}
-use Rattle.hash_layout.specs.declared.HashSays.TheVariants as k
-use Rattle.hash_layout.specs.declared.Hashed.{Hashed}
+use Rattle.hash_layout.specs.declared.TooLong.{TooLong}
 use Rattle.hash_layout.specs.Outcome.{Reply, refused, made, written, Outcome, unless}
 use Rattle.hash_layout.specs.Calls.{digest}
-use Rattle.hash_layout.specs.Answers.{hash_reply, hash_told}
+use Rattle.hash_layout.specs.Answers.{hash_bytes, hash_told}
 
 -- a refusal with its zeros
 abbrev pub no_digest : Outcome
@@ -31,17 +30,17 @@ number_of (refused n) = n
 number_of made = 0
 number_of (written n) = 0
 
-module _ (r : Hashed) (d : List ℕ) where
-  pub told_made : (t : Bool) → hash_told r ≡ tested t d → r.says ≡ k.Made → (t ≡ false) × (r.bytes ≡ d)
+module _ (r : Result (List ℕ) TooLong) (d : List ℕ) where
+  pub told_made : (t : Bool) (x : List ℕ) → hash_told r ≡ tested t d → r ≡ Ok x → (t ≡ false) × (x ≡ d)
   unfolding unless refusal digest
-  told_made true e s =
-      let z : ◌≡◌ {A = ℕ} 0 17 = ap (λ x. number_of (hash_reply x)) (sym s) ∙ ap (λ (x : Outcome). number_of x.reply) e in
+  told_made true x e s =
+      let z : ◌≡◌ {A = ℕ} 0 17 = ap (λ (x : Outcome). number_of x.reply) (ap hash_told (sym s) ∙ e) in
       absurd (omega arith)
-  told_made false e s = (refl, ap (λ (x : Outcome). x.bytes) e)
+  told_made false x e s = (refl, ap (λ (x : Outcome). x.bytes) (ap hash_told (sym s) ∙ e))
 
-  pub told_long : (t : Bool) → hash_told r ≡ tested t d → r.says ≡ k.TooLong → (t ≡ true) × (r.bytes ≡ replicate 32 0)
+  pub told_long : (t : Bool) (x : TooLong) → hash_told r ≡ tested t d → r ≡ Err x → (t ≡ true) × (hash_bytes r ≡ replicate 32 0)
   unfolding unless refusal digest
-  told_long true e s = (refl, ap (λ (x : Outcome). x.bytes) e)
-  told_long false e s =
-      let z : ◌≡◌ {A = ℕ} 17 0 = ap (λ x. number_of (hash_reply x)) (sym s) ∙ ap (λ (x : Outcome). number_of x.reply) e in
+  told_long true x e s = (refl, ap hash_bytes s)
+  told_long false x e s =
+      let z : ◌≡◌ {A = ℕ} 17 0 = ap (λ (x : Outcome). number_of x.reply) (ap hash_told (sym s) ∙ e) in
       absurd (omega arith)

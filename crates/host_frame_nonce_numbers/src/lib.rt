@@ -5,24 +5,24 @@ ghost use Rattle.std.specs.Prelude.{◌≡◌};
 ghost use Rattle.frame_layout.specs.Answers.{nonce_told};
 ghost use Rattle.host_frame_numbers.specs.Replies.{nonce_numbers};
 
-use frame::{NonceMade, NonceSays};
+use frame::OtherLength;
 use host_frame_numbers::NonceNumbers;
 
-pub fn nonce_numbers(made: NonceMade) -> NonceNumbers
+// A function: an `impl From` would say the same clause once more, as `from_gives`, and be no plainer.
+#[tactic(auto, unfolding(host_frame_numbers::specs::Replies::frame_numbers, host_frame_numbers::specs::Replies::nonce_numbers))]
+pub fn nonce_numbers(made: Result<[u8; 12], OtherLength>) -> NonceNumbers
     ensures { result ≡ nonce_numbers (nonce_told made) }
 {
-    let says = made.says;
-    let nonce = made.nonce;
-    match says {
-        NonceSays::Made => NonceNumbers {
+    match made {
+        Ok(nonce) => NonceNumbers {
             number: 0,
             kind: 13,
             nonce,
         },
-        NonceSays::OtherLength => NonceNumbers {
+        Err(OtherLength) => NonceNumbers {
             number: 3,
             kind: 0,
-            nonce,
+            nonce: [0; 12],
         },
     }
 }

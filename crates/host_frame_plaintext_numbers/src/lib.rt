@@ -5,41 +5,35 @@ ghost use Rattle.std.specs.Prelude.{◌≡◌};
 ghost use Rattle.frame_layout.specs.Answers.{plaintext_written_reply, plaintext_told};
 ghost use Rattle.host_frame_numbers.specs.Replies.{frame_numbers, plaintext_numbers};
 
-use frame::{PlaintextRead, PlaintextWritten};
+use frame::{Plaintext, PlaintextWriteRefusal, TooShort};
 use host_frame_numbers::PlaintextNumbers;
 use host_reply::{ReplyNumbers, flag_number, of_kind};
 
-pub fn plaintext_written_numbers(written: PlaintextWritten) -> ReplyNumbers
+// A function: an `impl From` would say the same clause once more, as `from_gives`, and be no plainer.
+#[tactic(auto, unfolding(host_frame_numbers::specs::Replies::frame_numbers))]
+pub fn plaintext_written_numbers(written: Result<usize, PlaintextWriteRefusal>) -> ReplyNumbers
     ensures { result ≡ frame_numbers (plaintext_written_reply written) }
 {
     match written {
-        PlaintextWritten::Wrote(length) => of_kind(1, length),
-        PlaintextWritten::NoRoom => of_kind(0, 5),
-        PlaintextWritten::TooLong => of_kind(0, 11),
+        Ok(length) => of_kind(1, length),
+        Err(PlaintextWriteRefusal::NoRoom) => of_kind(0, 5),
+        Err(PlaintextWriteRefusal::TooLong) => of_kind(0, 11),
     }
 }
 
-pub fn plaintext_numbers(read: PlaintextRead) -> PlaintextNumbers
+#[tactic(auto, unfolding(host_frame_numbers::specs::Replies::frame_numbers, host_frame_numbers::specs::Replies::plaintext_with, host_frame_numbers::specs::Replies::plaintext_numbers))]
+pub fn plaintext_numbers(read: Result<Plaintext, TooShort>) -> PlaintextNumbers
     ensures { result ≡ plaintext_numbers (plaintext_told read) }
 {
     match read {
-        PlaintextRead::Plaintext {
-            fin,
-            urg,
-            urgent,
-            data_at,
-        } => {
-            let has_fin = flag_number(fin);
-            let has_urg = flag_number(urg);
-            PlaintextNumbers {
-                number: data_at,
-                urgent,
-                kind: 14,
-                fin: has_fin,
-                urg: has_urg,
-            }
-        }
-        PlaintextRead::Short => PlaintextNumbers {
+        Ok(plaintext) => PlaintextNumbers {
+            number: plaintext.data_at,
+            urgent: plaintext.urgent,
+            kind: 14,
+            fin: flag_number(plaintext.fin),
+            urg: flag_number(plaintext.urg),
+        },
+        Err(TooShort) => PlaintextNumbers {
             number: 12,
             urgent: 0,
             kind: 0,

@@ -30,7 +30,7 @@ pub extern "C" fn door_link_send(g: GenerationRecord, fin: bool) -> GenerationNu
     ensures { result ≡ generation_numbers (outcome g (Ask.send fin)) }
 {
     let step = generation_send::send(g, fin);
-    host_generation_numbers::step_numbers(step)
+    host_generation_numbers::step_numbers(g, step)
 }
 
 // Initiates rekeying: one more generation, and one frame, with data or without, with FINp or without.
@@ -43,7 +43,7 @@ pub extern "C" fn door_link_initiate(
     ensures { result ≡ generation_numbers (outcome g (Ask.initiate has_data fin)) }
 {
     let step = generation_initiate::initiate(g, has_data, fin);
-    host_generation_numbers::step_numbers(step)
+    host_generation_numbers::step_numbers(g, step)
 }
 
 // A frame was received, with rekey or without.
@@ -52,5 +52,5 @@ pub extern "C" fn door_link_receive_frame(g: GenerationRecord, rekey: bool) -> G
     ensures { result ≡ generation_numbers (outcome g (Ask.receive rekey)) }
 {
     let step = generation_receive::receive(g, rekey);
-    host_generation_numbers::step_numbers(step)
+    host_generation_numbers::step_numbers(g, step)
 }

@@ -2,11 +2,12 @@
 #![tactic(auto)]
 
 ghost use Rattle.std.specs.Prelude.{◌≡◌};
+ghost use Rattle.init_layout.specs.Reading.{zeros};
 ghost use Rattle.init_layout.specs.Answers.{writing_of, reading_of};
 ghost use Rattle.host_init_numbers.specs.Replies.{writing_numbers, refused_init, init_numbers};
 
 use host_reply::{ReplyNumbers, of_kind};
-use init::{InitAnswer, InitRead, InitWritten};
+use init::{InitMessage, InitRefusal, InitWriteRefusal};
 
 // What reading an Init message gives; all but kind and number are zeros beside a refusal.
 #[repr(C)]
@@ -25,53 +26,52 @@ pub struct InitNumbers {
 }
 
 // What a writer answers.
-pub fn writing_numbers(written: InitWritten) -> ReplyNumbers
+#[tactic(auto, unfolding(crate::specs::Replies::writing_numbers))]
+pub fn writing_numbers(written: Result<usize, InitWriteRefusal>) -> ReplyNumbers
     ensures { result ≡ writing_numbers (writing_of written) }
 {
     match written {
-        InitWritten::Written(length) => of_kind(1, length),
-        InitWritten::Unfit => of_kind(0, 3),
-        InitWritten::NoRoom => of_kind(0, 5),
+        Ok(length) => of_kind(1, length),
+        Err(InitWriteRefusal::Unfit) => of_kind(0, 3),
+        Err(InitWriteRefusal::NoRoom) => of_kind(0, 5),
     }
 }
 
-// A refusal.
-fn refused_init(number: usize, nonce: [u8; 32], key: [u8; 56]) -> InitNumbers
-    ensures { result ≡ refused_init number nonce key }
+// A refusal, with zeros beside it.
+fn refused_init(number: usize) -> InitNumbers
+    ensures { result ≡ refused_init number (zeros 32) (zeros 56) }
 {
     InitNumbers {
         number,
         count: 0,
         cipher: 0,
         kind: 0,
-        nonce,
-        key,
+        nonce: [0u8; 32],
+        key: [0u8; 56],
     }
 }
 
-// What a reader answers, and the nonce and the key beside it.
-pub fn init_numbers(read: InitRead) -> InitNumbers
+// What a reader answers.
+#[tactic(auto, unfolding(crate::specs::Replies::says_numbers, crate::specs::Replies::init_numbers))]
+pub fn init_numbers(read: Result<InitMessage, InitRefusal>) -> InitNumbers
     ensures { result ≡ init_numbers (reading_of read) }
 {
-    let answer = read.answer;
-    let nonce = read.nonce;
-    let key = read.key;
-    match answer {
-        InitAnswer::Read {
-            cipher,
-            count,
-            length,
-        } => InitNumbers {
-            number: length,
-            count,
-            cipher,
-            kind: 10,
-            nonce,
-            key,
-        },
-        InitAnswer::Unfit => refused_init(3, nonce, key),
-        InitAnswer::Unreadable => refused_init(8, nonce, key),
-        InitAnswer::Incomplete => refused_init(9, nonce, key),
-        InitAnswer::NoCommonCipher => refused_init(10, nonce, key),
+    match read {
+        Ok(message) => {
+            let nonce = message.nonce;
+            let key = message.key;
+            InitNumbers {
+                number: message.length,
+                count: message.count,
+                cipher: message.cipher,
+                kind: 10,
+                nonce,
+                key,
+            }
+        }
+        Err(InitRefusal::Unfit) => refused_init(3),
+        Err(InitRefusal::Unreadable) => refused_init(8),
+        Err(InitRefusal::Incomplete) => refused_init(9),
+        Err(InitRefusal::NoCommonCipher) => refused_init(10),
     }
 }

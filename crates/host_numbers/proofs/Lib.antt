@@ -1,3 +1,2 @@
 -- Laws of the unit's replies in plain numbers.
-pub mod Numbering
 pub mod ReadBack

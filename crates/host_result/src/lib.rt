@@ -37,9 +37,17 @@ pub extern "C" fn door_link_result(
 ) -> LinkResult
     ensures { GivesResult result out.new (unit_in marks.now rows.now doors.now) (step (unit_in marks.now rows.now doors.now) (on door (ask_result out.old))) }
 {
-    let told = link_unit::result(marks, rows, doors, door, out);
-    let given = told.reply;
-    let reply = reply_numbers(given);
-    let secret = told.secret;
-    LinkResult { reply, secret }
+    match link_unit::result(marks, rows, doors, door, out) {
+        Ok(told) => {
+            let secret = told.secret;
+            LinkResult {
+                reply: reply_numbers(Ok(told.reply)),
+                secret,
+            }
+        }
+        Err(refusal) => LinkResult {
+            reply: reply_numbers(Err(refusal)),
+            secret: [0u8; 32],
+        },
+    }
 }

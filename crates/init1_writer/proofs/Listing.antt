@@ -10,7 +10,7 @@ use lib.Dec.{leb}
 use lib.ListN.{length, get_or, take, drop, take-append-drop}
 use lib.Seq.{take_all, take-suc, length-take-le}
 use Rattle.wire.specs.Bytes.{pasted}
-use Rattle.wire.specs.ByteLaws.{pasted_twice, length_pasted}
+use Rattle.wire.specs.ByteLaws.{pasted_twice}
 use Rattle.wire.specs.Number.{big_endian}
 use Rattle.wire.specs.NumberLaws.{length_big}
 use Rattle.init_layout.specs.Layout.{cipher_bytes}
@@ -40,34 +40,29 @@ ciphers_step l i h =
 
 module _ (s l : List ℕ) (at : ℕ) where
   -- the first i ciphers are written
-  pub record Put (t : List ℕ) (i next : ℕ) : Type 0 where
+  pub record Put (t : List ℕ) (i : ℕ) : Type 0 where
     pub within : i ≤ length l
-    pub place : next ≡ at + 2 * i
     pub bytes : t ≡ pasted s at (cipher_bytes (take i l))
 
-  pub put_start : Put s 0 at
+  pub put_start : Put s 0
   unfolding cipher_bytes
-  put_start = record { within = omega arith; place = omega arith; bytes = nothing_put s at }
+  put_start = record { within = omega arith; bytes = nothing_put s at }
 
-  module _ (t : List ℕ) (i next : ℕ) (so_far : Put t i next) where
-    pub put_length : length t ≡ length s
-    put_length = ap length so_far.bytes ∙ length_pasted s at (cipher_bytes (take i l))
-
+  module _ (t : List ℕ) (i : ℕ) (so_far : Put t i) where
     pub put_end : length l ≤ i → t ≡ pasted s at (cipher_bytes l)
     put_end h = so_far.bytes ∙ ap (λ m. pasted s at (cipher_bytes m)) (take_all i l h)
 
-    pub put_next : at + 2 * length l ≤ length s → i < length l → (r : List ℕ) → r ≡ pasted t next (big_endian 2 (get_or l i 0)) → Put r (i + 1) (next + 2)
+    pub put_next : at + 2 * length l ≤ length s → i < length l → (r : List ℕ) → r ≡ pasted t (at + 2 * i) (big_endian 2 (get_or l i 0)) → Put r (i + 1)
     put_next room h r e =
         let u = cipher_bytes (take i l) in
         let v = big_endian 2 (get_or l i 0) in
         let n : length (take i l) ≡ i = length-take-le i l (omega arith) in
-        let k : next ≡ at + length u = omega (arith, so_far.place, length_ciphers (take i l)) in
+        let k : at + 2 * i ≡ at + length u = omega (arith, length_ciphers (take i l)) in
         record {
           within = omega arith;
-          place = omega (arith, so_far.place);
           bytes =
               e
-              ∙ (ap (λ x. pasted x next v) so_far.bytes
+              ∙ (ap (λ x. pasted x (at + 2 * i) v) so_far.bytes
               ∙ (ap (λ j. pasted (pasted s at u) j v) k
               ∙ (pasted_twice s u v at (omega (arith, length_ciphers (take i l), length_big 2 (get_or l i 0)))
               ∙ ap (pasted s at) (sym (ciphers_step l i h)))));

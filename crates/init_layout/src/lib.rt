@@ -12,32 +12,28 @@ pub struct Enabled {
     pub chacha20: bool,
 }
 
-// What a writer answers.
+// Why a writer writes nothing.
 #[derive(Clone, Copy)]
-pub enum InitWritten {
-    Written(usize),
+pub enum InitWriteRefusal {
     Unfit,
     NoRoom,
 }
 
-// What a reader answers.
+// What a reader reads: the cipher that is taken, how many ciphers are listed, the length of the whole message, the nonce, and the key with zeros up to 56 bytes.
 #[derive(Clone, Copy)]
-pub enum InitAnswer {
-    Read {
-        cipher: u16,
-        count: usize,
-        length: usize,
-    },
+pub struct InitMessage {
+    pub cipher: u16,
+    pub count: usize,
+    pub length: usize,
+    pub nonce: [u8; 32],
+    pub key: [u8; 56],
+}
+
+// Why a reader reads nothing.
+#[derive(Clone, Copy)]
+pub enum InitRefusal {
     Unfit,
     Unreadable,
     Incomplete,
     NoCommonCipher,
-}
-
-// The answer, and beside it the nonce and the key, the key with zeros up to 56 bytes; zeros beside a refusal.
-#[derive(Clone, Copy)]
-pub struct InitRead {
-    pub answer: InitAnswer,
-    pub nonce: [u8; 32],
-    pub key: [u8; 56],
 }

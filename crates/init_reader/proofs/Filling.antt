@@ -24,13 +24,11 @@ filled n v h =
     ∙ ap (λ l. v ++ l) (ap (λ k. drop k (replicate {A = ℕ} n 0)) (zero-add (length v)) ∙ drop_zeros n (length v) h)
 
 module _ (s t : List ℕ) (at : ℕ) where
-  pub nonce_filled : at + 32 ≤ length s → t ≡ pasted (replicate 32 0) 0 (take (at + 32 - at) (drop at s)) → t ≡ bytes_from 32 s at
-  unfolding part zeros
+  pub nonce_filled : at + 32 ≤ length s → t ≡ take (at + 32 - at) (drop at s) → t ≡ bytes_from 32 s at
+  unfolding part
   nonce_filled h e =
-      let v = take 32 (drop at s) in
-      let n : length v ≡ 32 = length_part at 32 s h in
       let w : at + 32 - at ≡ 32 = omega arith in
-      e ∙ (ap (λ k. pasted (replicate 32 0) 0 (take k (drop at s))) w ∙ filled 32 v (omega arith) ∙ (ap (λ k. v ++ zeros (32 - k)) n ∙ (append-nil v ∙ sym (bytes_from_part 32 s at h))))
+      e ∙ (ap (λ k. take k (drop at s)) w ∙ sym (bytes_from_part 32 s at h))
 
   pub key_filled : (keys : ℕ) → at + keys ≤ length s → keys ≤ 56 → t ≡ pasted (replicate 56 0) 0 (take (at + keys - at) (drop at s)) → t ≡ padded (bytes_from keys s at)
   unfolding part padded

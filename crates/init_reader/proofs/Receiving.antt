@@ -1,19 +1,18 @@
 -- Laws of the two readers' ways out. Assumes nothing.
-use Prim.Native.Nat.{ℕ, ◌+◌, ◌*◌, ◌≤◌, ◌<◌}
-use mathlib.Core.Path.{◌≡◌, sym, ◌∙◌, ap}
-use mathlib.Core.List.{List}
-use mathlib.Core.Bool.{Bool, true, false, cond}
-use mathlib.Core.Option.{Option, none, some}
-use native.Mathlib.Omega.{arith}
-use borrow.Author.Tests.{lt-ltb, le-ltb, eq-eqb, ne_eqb}
-use lib.ListN.{length, get_or}
+use Rattle.std.specs.Prelude.{ℕ, ◌≡◌, ◌+◌, ◌*◌, ◌≤◌, ◌<◌, List, Bool, true, false, cond, length, get_or, Err}
+use Rattle.std.proofs.Common.{sym, ◌∙◌, ap, arith, lt-ltb, le-ltb, eq-eqb, ne_eqb}
+use Rattle.std.proofs.Math.Option.{Option, none, some}
 use Rattle.wire.specs.Bytes.{bytes_from}
 use Rattle.wire.specs.Number.{number_at}
 use Rattle.eno.specs.Tep.{key_length}
 use Rattle.init_layout.specs.Layout.{Init, init1, init2}
 use Rattle.init_layout.specs.Reading.{count_at, ciphers_from, nonce_from, fields_end, Standing, unreadable, incomplete, whole, standing_of, ciphers_at, first_that, is_enabled, in_init1, took, refused_with, reading_as, zeros, refused_reading, padded, with_cipher, taken_from, read_as, reading, read_for, read_init1, read_init2}
+use Rattle.init_layout.specs.Answers.{reading_of}
 use Rattle.init_layout.proofs.StandingOfLaws.{of_whole}
 use Rattle.init_layout.specs.declared.Enabled.{Enabled}
+use Rattle.init_steps.specs.Answers.{standing_in, refusal_of}
+use Rattle.init_steps.specs.declared.NotWhole.{NotWhole}
+use Rattle.init_steps.specs.declared.NotWhole.TheVariants as reason
 
 -- either message
 module _ (i : Init) (keys : ℕ) (test : ℕ → Bool) (p : List ℕ) where
@@ -24,6 +23,12 @@ module _ (i : Init) (keys : ℕ) (test : ℕ → Bool) (p : List ℕ) where
   for_some : (keys ≡ 0 → ⊥) → (v : Standing) → v ≡ standing_of i keys p → read_as i keys test p v ≡ read_for i keys test p
   unfolding read_for reading
   for_some h v e = ap (read_as i keys test p) e ∙ simp (ne_eqb _ _ h)
+
+  -- what is refused where no message is whole
+  for_not_whole : (keys ≡ 0 → ⊥) → (e : NotWhole) → standing_in (Err e) ≡ standing_of i keys p → reading_of (Err (refusal_of e)) ≡ read_for i keys test p
+  unfolding read_as refused_reading
+  for_not_whole h reason.Unreadable st = for_some h unreadable st
+  for_not_whole h reason.Incomplete st = for_some h incomplete st
 
   -- what is read of a message that is whole
   for_whole : (keys ≡ 0 → ⊥) → (n : ℕ) → whole n ≡ standing_of i keys p → (c : Option ℕ) → c ≡ first_that test (ciphers_at (count_at i p) p (ciphers_from i))
@@ -38,23 +43,19 @@ module _ (t : ℕ) (enabled : Enabled) (p : List ℕ) (keys : ℕ) (is-keys : ke
   unfolding read_init1
   read1_unfit h = for_none init1 (key_length t) (is_enabled enabled) p (sym is-keys ∙ h)
 
-  module _ (h : keys ≡ 0 → ⊥) (v : Standing) (st : v ≡ standing_of init1 (key_length t) p) where
+  module _ (h : keys ≡ 0 → ⊥) where
     some1 : key_length t ≡ 0 → ⊥
     some1 e = h (is-keys ∙ e)
 
-    pub read1_unreadable : v ≡ unreadable → reading_as (refused_with 8) (zeros 32) (zeros 56) ≡ read_init1 t enabled p
-    unfolding read_init1 read_as refused_reading
-    read1_unreadable e = for_some init1 (key_length t) (is_enabled enabled) p some1 unreadable (sym e ∙ st)
+    pub read1_not_whole : (e : NotWhole) → standing_in (Err e) ≡ standing_of init1 (key_length t) p → reading_of (Err (refusal_of e)) ≡ read_init1 t enabled p
+    unfolding read_init1
+    read1_not_whole e st = for_not_whole init1 (key_length t) (is_enabled enabled) p some1 e st
 
-    pub read1_incomplete : v ≡ incomplete → reading_as (refused_with 9) (zeros 32) (zeros 56) ≡ read_init1 t enabled p
-    unfolding read_init1 read_as refused_reading
-    read1_incomplete e = for_some init1 (key_length t) (is_enabled enabled) p some1 incomplete (sym e ∙ st)
-
-    module _ (n : ℕ) (w : v ≡ whole n) (count : ℕ) (is_count : count ≡ get_or p 8 1) where
-      pub read1_room : 9 + 2 * count + 32 + keys ≤ length p
+    module _ (n : ℕ) (st : whole n ≡ standing_of init1 (key_length t) p) where
+      pub read1_room : (count : ℕ) → count ≡ get_or p 8 1 → 9 + 2 * count + 32 + keys ≤ length p
       unfolding fields_end nonce_from ciphers_from count_at
-      read1_room =
-          let s = (of_whole init1 (key_length t) p n (sym st ∙ w)).0.fields in
+      read1_room count is_count =
+          let s = (of_whole init1 (key_length t) p n (sym st)).0.fields in
           omega (arith, is-keys, is_count, s.all, s.hopeful.enough s.head)
 
       module _ (c : Option ℕ) (q : c ≡ first_that (is_enabled enabled) (ciphers_at (count_at init1 p) p 9)) where
@@ -64,14 +65,15 @@ module _ (t : ℕ) (enabled : Enabled) (p : List ℕ) (keys : ℕ) (is-keys : ke
 
         pub read1_uncommon : c ≡ none → reading_as (refused_with 10) (zeros 32) (zeros 56) ≡ read_init1 t enabled p
         unfolding read_init1 with_cipher refused_reading
-        read1_uncommon e = for_whole init1 (key_length t) (is_enabled enabled) p some1 n (sym w ∙ st) none (sym e ∙ is_first)
+        read1_uncommon e = for_whole init1 (key_length t) (is_enabled enabled) p some1 n st none (sym e ∙ is_first)
 
-        pub read1_taken : (x : ℕ) → c ≡ some x → reading_as (took x count n) (bytes_from 32 p (9 + 2 * count)) (padded (bytes_from keys p (9 + 2 * count + 32))) ≡ read_init1 t enabled p
+        pub read1_taken : (count : ℕ) → count ≡ get_or p 8 1 → (x : ℕ) → c ≡ some x
+            → reading_as (took x count n) (bytes_from 32 p (9 + 2 * count)) (padded (bytes_from keys p (9 + 2 * count + 32))) ≡ read_init1 t enabled p
         unfolding read_init1 with_cipher nonce_from ciphers_from count_at
-        read1_taken x e =
+        read1_taken count is_count x e =
             ap (λ k. reading_as (took x count n) (bytes_from 32 p (9 + 2 * count)) (padded (bytes_from k p (9 + 2 * count + 32)))) is-keys
             ∙ (ap (λ k. reading_as (took x k n) (bytes_from 32 p (9 + 2 * k)) (padded (bytes_from (key_length t) p (9 + 2 * k + 32)))) is_count
-            ∙ for_whole init1 (key_length t) (is_enabled enabled) p some1 n (sym w ∙ st) (some x) (sym e ∙ is_first))
+            ∙ for_whole init1 (key_length t) (is_enabled enabled) p some1 n st (some x) (sym e ∙ is_first))
 
 -- Init2
 module _ (t : ℕ) (own p : List ℕ) where
@@ -87,23 +89,18 @@ module _ (t : ℕ) (own p : List ℕ) where
     pub read2_unfit : keys ≡ 0 → reading_as (refused_with 3) (zeros 32) (zeros 56) ≡ read_init2 t own p
     read2_unfit h = for_none init2 (key_length t) (in_init1 own) p (sym is-keys ∙ h) ∙ two
 
-    module _ (h : keys ≡ 0 → ⊥) (v : Standing) (st : v ≡ standing_of init2 (key_length t) p) where
+    module _ (h : keys ≡ 0 → ⊥) where
       some2 : key_length t ≡ 0 → ⊥
       some2 e = h (is-keys ∙ e)
 
-      pub read2_unreadable : v ≡ unreadable → reading_as (refused_with 8) (zeros 32) (zeros 56) ≡ read_init2 t own p
-      unfolding read_as refused_reading
-      read2_unreadable e = for_some init2 (key_length t) (in_init1 own) p some2 unreadable (sym e ∙ st) ∙ two
+      pub read2_not_whole : (e : NotWhole) → standing_in (Err e) ≡ standing_of init2 (key_length t) p → reading_of (Err (refusal_of e)) ≡ read_init2 t own p
+      read2_not_whole e st = for_not_whole init2 (key_length t) (in_init1 own) p some2 e st ∙ two
 
-      pub read2_incomplete : v ≡ incomplete → reading_as (refused_with 9) (zeros 32) (zeros 56) ≡ read_init2 t own p
-      unfolding read_as refused_reading
-      read2_incomplete e = for_some init2 (key_length t) (in_init1 own) p some2 incomplete (sym e ∙ st) ∙ two
-
-      module _ (n : ℕ) (w : v ≡ whole n) where
+      module _ (n : ℕ) (st : whole n ≡ standing_of init2 (key_length t) p) where
         pub read2_room : 42 + keys ≤ length p
         unfolding fields_end nonce_from ciphers_from count_at
         read2_room =
-            let s = (of_whole init2 (key_length t) p n (sym st ∙ w)).0.fields in
+            let s = (of_whole init2 (key_length t) p n (sym st)).0.fields in
             omega (arith, is-keys, s.all, s.hopeful.enough s.head)
 
         module _ (x : ℕ) (is-cipher : x ≡ number_at 2 p 8) where
@@ -113,10 +110,10 @@ module _ (t : ℕ) (own p : List ℕ) where
 
           pub read2_uncommon : in_init1 own x ≡ false → reading_as (refused_with 10) (zeros 32) (zeros 56) ≡ read_init2 t own p
           unfolding with_cipher refused_reading
-          read2_uncommon e = for_whole init2 (key_length t) (in_init1 own) p some2 n (sym w ∙ st) none (only false (sym e)) ∙ two
+          read2_uncommon e = for_whole init2 (key_length t) (in_init1 own) p some2 n st none (only false (sym e)) ∙ two
 
           pub read2_taken : in_init1 own x ≡ true → reading_as (took x 1 n) (bytes_from 32 p 10) (padded (bytes_from keys p 42)) ≡ read_init2 t own p
           unfolding with_cipher nonce_from ciphers_from count_at
           read2_taken e =
               ap (λ k. reading_as (took x 1 n) (bytes_from 32 p 10) (padded (bytes_from k p 42))) is-keys
-              ∙ (for_whole init2 (key_length t) (in_init1 own) p some2 n (sym w ∙ st) (some x) (only true (sym e)) ∙ two)
+              ∙ (for_whole init2 (key_length t) (in_init1 own) p some2 n st (some x) (only true (sym e)) ∙ two)

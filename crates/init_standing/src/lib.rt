@@ -5,7 +5,7 @@ ghost use Rattle.std.specs.Prelude.{◌≡◌};
 ghost use Rattle.init_layout.specs.Reading.{agrees, standing};
 ghost use Rattle.init_steps.specs.Answers.{standing_in};
 
-use init_steps::Progress;
+use init_steps::NotWhole;
 
 // The greatest length that is read.
 const MOST: usize = 4096;
@@ -14,31 +14,25 @@ const MOST: usize = 4096;
 fn begins(magic: &[u8], s: &[u8]) -> bool
     ensures { result ≡ agrees magic.now s.now }
 {
-    if s.len() < magic.len() {
-        return wire::stands_at(magic, 0, s);
-    }
-    wire::stands_at(s, 0, magic)
+    magic.starts_with(s) || s.starts_with(magic)
 }
 
-// How the bytes at hand stand, for a magic and for fields that end at a place.
-pub fn settle(magic: &[u8], fields: usize, s: &[u8]) -> Progress
+// How the bytes at hand stand, for a magic and for fields that end at a place: the length of the whole message.
+pub fn settle(magic: &[u8], fields: usize, s: &[u8]) -> Result<usize, NotWhole>
     ensures { standing_in result ≡ standing magic.now fields s.now }
 {
-    if !begins(magic, s) {
-        return Progress::Unreadable;
-    }
     let n = wire_numbers::read_u32(s, 4) as usize;
-    if MOST < n {
-        return Progress::Unreadable;
+    if !begins(magic, s) || MOST < n {
+        return Err(NotWhole::Unreadable);
     }
     if s.len() < 8 {
-        return Progress::Incomplete;
+        return Err(NotWhole::Incomplete);
     }
     if n < fields {
-        return Progress::Unreadable;
+        return Err(NotWhole::Unreadable);
     }
     if s.len() < n {
-        return Progress::Incomplete;
+        return Err(NotWhole::Incomplete);
     }
-    Progress::Whole(n)
+    Ok(n)
 }

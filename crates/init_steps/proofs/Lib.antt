@@ -1,2 +1,2 @@
--- Laws that the proofs use.
-pub mod Counting
+-- How long the keys of TEPs are.
+pub mod KeyLengths

@@ -13,27 +13,16 @@ use suboptions::Summary;
 use valid_tep::Best;
 
 // The transcript is A's option followed by B's; the TEP byte is B's.
-fn conclude<'a>(a: &'a [u8], b: &'a [u8], role: u8, best: Best) -> Judgement
+#[tactic(auto, unfolding(judge_quick::specs::Quick::concluded, judgement::specs::Answers::encrypted_as))]
+fn conclude<'a>(a: &'a [u8], b: &'a [u8], role: u8, best: Option<Best>) -> Judgement
     requires { (length a.now ≤ 40) × (length b.now ≤ 40) }
     ensures { result ≡ concluded a.now b.now role best }
 {
-    if !best.found {
+    let Some(best) = best else {
         return judgement::without_transcript(Verdict::Plain(Reason::NoValidTep));
-    }
+    };
     let tep = judge_quick::byte_before(b, best.start);
-    let mut transcript = [0u8; 80];
-    let n = a.len();
-    wire::copy(&mut transcript, 0, a);
-    wire::copy(&mut transcript, n, b);
-    Judgement {
-        verdict: Verdict::Encrypted {
-            role,
-            tep,
-            resumed: best.resumed,
-        },
-        length: n + b.len(),
-        transcript,
-    }
+    judgement::encrypted(a, b, role, tep, best.resumed)
 }
 
 fn negotiate<'a>(own: &'a [u8], peer: &'a [u8], hand: InHand, s: Summary, p: Summary) -> Judgement
@@ -43,9 +32,7 @@ fn negotiate<'a>(own: &'a [u8], peer: &'a [u8], hand: InHand, s: Summary, p: Sum
     let own_is_b = s.role == 1;
     let a = judgement::host_a_option(own, peer, own_is_b);
     let b = judgement::host_b_option(own, peer, own_is_b);
-    let mine = s.teps;
-    let theirs = p.teps;
-    let best = valid_tep_best::best_of(a, b, hand, own_is_b, mine, theirs);
+    let best = valid_tep_best::best_of(a, b, hand, own_is_b, s.teps, p.teps);
     conclude(a, b, s.role, best)
 }
 
@@ -60,18 +47,12 @@ pub fn judge<'a>(
 {
     let own = finder::find_option(own_area, true);
     let peer = finder::find_option(peer_area, true);
-    if own.len() == 0 {
-        return judge_missed::not_found(own_area, own, peer_area, peer);
-    }
-    if peer.len() == 0 {
+    if own.len() == 0 || peer.len() == 0 {
         return judge_missed::not_found(own_area, own, peer_area, peer);
     }
     let s = suboption_summary::summarize(own);
     let p = suboption_summary::summarize(peer);
-    if s.ill_formed {
-        return judgement::without_transcript(Verdict::Plain(Reason::IllFormed));
-    }
-    if p.ill_formed {
+    if s.ill_formed || p.ill_formed {
         return judgement::without_transcript(Verdict::Plain(Reason::IllFormed));
     }
     if s.role == p.role {

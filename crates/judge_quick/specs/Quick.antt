@@ -4,8 +4,9 @@ use Rattle.std.proofs.Math.Option.{Option}
 use Rattle.eno.specs.Judge.{of_a, of_b}
 use Rattle.eno.specs.declared.SessionRecord.{SessionRecord}
 use Rattle.suboptions.specs.declared.Summary.{Summary}
-use Rattle.valid_tep.specs.Best.{best_of}
+use Rattle.valid_tep.specs.Best.{best_of, is_found, start_of, resumed_of}
 use Rattle.valid_tep.specs.declared.Best.{Best}
+use Rattle.std.specs.Prelude as code
 use Rattle.judgement.specs.Answers.{padded, without_transcript}
 use Rattle.judgement.specs.declared.Reason.TheVariants as reason
 use Rattle.judgement.specs.declared.Verdict.TheVariants as verdict
@@ -14,11 +15,11 @@ use Rattle.judgement.specs.declared.Judgement.{Judgement}
 unfoldable pub byte_before : List ℕ → ℕ → ℕ
 byte_before s at = cond (eqb at 0) 0 (get_or s (at - 1) 0)
 
-unfoldable pub concluded : List ℕ → List ℕ → ℕ → Best → Judgement
+unfoldable pub concluded : List ℕ → List ℕ → ℕ → code.Option Best → Judgement
 concluded a b role best =
-    cond best.found
+    cond (is_found best)
     (record {
-      verdict = verdict.Encrypted role (byte_before b best.start) best.resumed;
+      verdict = verdict.Encrypted role (byte_before b (start_of best)) (resumed_of best);
       length = length a + length b;
       transcript = padded (a ++ b);
     })

@@ -1,5 +1,5 @@
 -- The answers of a judge, in document 01's numbers and values.
-use Rattle.std.specs.Prelude.{ℕ, zero, suc, ◌-◌, ◌≡◌, refl, List, [], ◌∷◌, ◌++◌, Bool, true, false, length, take, replicate}
+use Rattle.std.specs.Prelude.{ℕ, zero, suc, ◌+◌, ◌-◌, ◌≡◌, refl, List, [], ◌∷◌, ◌++◌, Bool, true, false, length, take, replicate}
 use Rattle.std.proofs.Common.{sym, ◌∙◌, ap, ap₂}
 use Rattle.eno.specs.Cause.{numbered}
 use Rattle.eno.specs.declared.Cause.{Cause}
@@ -41,6 +41,10 @@ padded t = t ++ replicate (most_transcript - length t) 0
 
 unfoldable pub without_transcript : Verdict → Judgement
 without_transcript v = record { verdict = v; length = 0; transcript = replicate most_transcript 0 }
+
+-- the answer with a transcript: A's option followed by B's
+unfoldable pub encrypted_as : (a b : List ℕ) → (role byte : ℕ) → Bool → Judgement
+encrypted_as a b role byte again = record { verdict = verdict.Encrypted role byte again; length = length a + length b; transcript = padded (a ++ b) }
 
 -- the answer r says what was judged, and nothing more: its verdict by number and values, its array whole
 pub record Judges (j : Judged) (r : Judgement) : Type 0 where

@@ -1,10 +1,9 @@
 // What a judge says of two option areas: the verdict and the transcript, why a connection is plain TCP, and which of two options is host A's and which host B's.
 #![tactic(auto)]
 
-ghost use Rattle.std.specs.Prelude.{◌≡◌, ◌&&◌, not, cond};
+ghost use Rattle.std.specs.Prelude.{◌≡◌, ◌≤◌, ◌&&◌, not, cond, length};
 ghost use Rattle.eno.specs.Judge.{of_a, of_b};
-ghost use Rattle.eno.specs.Cause.{numbered};
-ghost use Rattle.judgement.specs.Answers.{cause_of, without_transcript};
+ghost use Rattle.judgement.specs.Answers.{cause_of, encrypted_as, without_transcript};
 
 use eno::Cause;
 
@@ -21,17 +20,6 @@ pub enum Reason {
     Altered,
 }
 
-// A reason for plain TCP without a place.
-fn numbered(reason: u8) -> Cause
-    ensures { result ≡ numbered reason }
-{
-    Cause {
-        reason,
-        place: 0,
-        kind: 0,
-    }
-}
-
 // Document 01's number of a reason, with place and kind of an unreadable area.
 pub fn cause_of(reason: Reason) -> Cause
     ensures { result ≡ cause_of reason }
@@ -42,12 +30,12 @@ pub fn cause_of(reason: Reason) -> Cause
             place,
             kind,
         },
-        Reason::NoOption => numbered(2),
-        Reason::IllFormed => numbered(3),
-        Reason::EqualRoles => numbered(4),
-        Reason::NotAware => numbered(5),
-        Reason::NoValidTep => numbered(6),
-        Reason::Altered => numbered(7),
+        Reason::NoOption => Cause::numbered(2),
+        Reason::IllFormed => Cause::numbered(3),
+        Reason::EqualRoles => Cause::numbered(4),
+        Reason::NotAware => Cause::numbered(5),
+        Reason::NoValidTep => Cause::numbered(6),
+        Reason::Altered => Cause::numbered(7),
     }
 }
 
@@ -66,18 +54,32 @@ pub struct Judgement {
     pub transcript: [u8; 80],
 }
 
+// Of what the two ends have, host B's: that of whichever sent b = 1.
+pub fn of_b<T: Copy>(own_is_b: bool, own: T, peer: T) -> T
+    ensures { result ≡ of_b own_is_b own peer }
+{
+    if own_is_b { own } else { peer }
+}
+
+// And host A's, which is that of the other one.
+pub fn of_a<T: Copy>(own_is_b: bool, own: T, peer: T) -> T
+    ensures { result ≡ of_a own_is_b own peer }
+{
+    if own_is_b { peer } else { own }
+}
+
 // Host B's option is whichever of the two was sent with b = 1.
 pub fn host_b_option<'a>(own: &'a [u8], peer: &'a [u8], own_is_b: bool) -> &'a [u8]
     ensures { (result.now ≡ of_b own_is_b own.now peer.now) × (result.ref_ptr ≡ cond own_is_b own.entry.ref_ptr peer.entry.ref_ptr) }
 {
-    if own_is_b { own } else { peer }
+    of_b(own_is_b, own, peer)
 }
 
 // Host A's option is the other one.
 pub fn host_a_option<'a>(own: &'a [u8], peer: &'a [u8], own_is_b: bool) -> &'a [u8]
     ensures { (result.now ≡ of_a own_is_b own.now peer.now) × (result.ref_ptr ≡ cond own_is_b peer.entry.ref_ptr own.entry.ref_ptr) }
 {
-    if own_is_b { peer } else { own }
+    of_a(own_is_b, own, peer)
 }
 
 // A verdict that comes with no transcript.
@@ -91,9 +93,24 @@ pub fn without_transcript(verdict: Verdict) -> Judgement
     }
 }
 
+// The verdict that two options of at most 40 bytes come to where a TEP is negotiated; the transcript is A's option followed by B's.
+pub fn encrypted<'a>(a: &'a [u8], b: &'a [u8], role: u8, tep: u8, resumed: bool) -> Judgement
+    ensures { length a.now ≤ 40 → length b.now ≤ 40 → result ≡ encrypted_as a.now b.now role tep resumed }
+{
+    let mut transcript = [0u8; 80];
+    let n = a.len();
+    wire::copy(&mut transcript, 0, a);
+    wire::copy(&mut transcript, n, b);
+    Judgement {
+        verdict: Verdict::Encrypted { role, tep, resumed },
+        length: n + b.len(),
+        transcript,
+    }
+}
+
 // Whether an end that is mandatory-aware turns down an option that is not aware.
 pub fn is_unaware(mandatory: bool, aware: bool) -> bool
     ensures { result ≡ (mandatory && not aware) }
 {
-    if mandatory { !aware } else { false }
+    mandatory && !aware
 }

@@ -1,5 +1,5 @@
 -- Worked examples: each label as HKDF gets it, in the RFC's numbers; and what is refused.
-use Rattle.std.specs.Prelude.{ℕ, ◌≡◌, List, [], ◌∷◌, ◌++◌, replicate}
+use Rattle.std.specs.Prelude.{ℕ, ◌≡◌, List, [], ◌∷◌, replicate}
 use Rattle.std.proofs.Math.Path.{refl}
 use Rattle.refusals.specs.Rows.{refusal}
 use Rattle.eno.specs.Tep.{is_known}
@@ -8,7 +8,7 @@ use Rattle.key_layout.specs.Cipher.{is_cipher, key_length, fixed_length}
 use Rattle.key_layout.specs.Schedule as s
 use Rattle.key_layout.specs.Schedule.{const_next_key, const_session_id, const_rekey, const_key_a, const_key_b, const_resume, cprf, session_secret, traffic_key}
 use Rattle.key_layout.specs.Outcome.{Reply, refused, made, unless, only}
-use Rattle.key_layout.specs.Calls.{Ask, first_secret, next_secret, master_key, next_master, master_key_at, traffic_keys, session_id, resumption_identifier, unfit_key, unfit_nonces, keys_of, outcome}
+use Rattle.key_layout.specs.Calls.{Ask, next_secret, master_key, next_master, master_key_at, traffic_keys, session_id, resumption_identifier, unfit_key, unfit_nonces, keys_of, outcome}
 use Rattle.key_layout.specs.Examples.{Says}
 
 -- the constants 01 to 06, and how many bytes each expansion gives

@@ -1,5 +1,5 @@
 -- Demand 1 for the key schedule: a reply is `refused n` exactly when n is the least number that applies, and then all bytes are zeros. Assumes nothing.
-use Rattle.std.specs.Prelude.{ℕ, List, [], ◌∷◌, ◌↔◌}
+use Rattle.std.specs.Prelude.{ℕ, List, [], ◌↔◌}
 use Rattle.std.proofs.Math.Path.{◌≡◌, refl, sym, ap}
 use Rattle.std.proofs.Common.{◌∙◌, arith}
 use Rattle.std.proofs.Math.Option.{Option, none, some}

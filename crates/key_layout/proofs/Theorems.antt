@@ -1,6 +1,6 @@
 -- What the schedule promises: its chains, the lengths of what it gives, and that 17 is a first secret's alone. Assumes nothing.
-use Rattle.std.specs.Prelude.{ℕ, zero, suc, ◌+◌, ◌≡◌, refl, List, [], ◌∷◌, ◌++◌, Bool, true, false, ◌&&◌, ◌||◌, length, drop}
-use Rattle.std.proofs.Common.{sym, ◌∙◌, ap, true≢false, arith, length-drop}
+use Rattle.std.specs.Prelude.{ℕ, zero, suc, ◌+◌, ◌≡◌, refl, List, [], ◌∷◌, ◌++◌, Bool, true, false, length, drop}
+use Rattle.std.proofs.Common.{sym, ap, true≢false, arith, length-drop}
 use Rattle.std.proofs.Math.ListN.{take-append-drop}
 use Rattle.std.proofs.Math.Seq.{length-take-le}
 use Rattle.refusals.specs.Rows.{marked}

@@ -1,28 +1,33 @@
 -- The answers of the calls in the papers' numbers and values; each view loses nothing.
-use Rattle.std.specs.Prelude.{◌≡◌, []}
-use Rattle.std.proofs.Common.{◌∙◌}
+use Rattle.std.specs.Prelude.{ℕ, List, [], Result, Ok, Err, replicate}
 use Rattle.key_layout.specs.Outcome.{Reply, refused, made, Outcome}
-use Rattle.key_layout.specs.declared.KeySays.{KeySays}
-use Rattle.key_layout.specs.declared.KeySays.TheVariants as k
-use Rattle.key_layout.specs.declared.KeyMade.{KeyMade}
+use Rattle.key_layout.specs.declared.KeyRefusal.{KeyRefusal}
+use Rattle.key_layout.specs.declared.KeyRefusal.TheVariants as k
 use Rattle.key_layout.specs.declared.TrafficKeys.{TrafficKeys}
-use Rattle.key_layout.specs.declared.SessionId.{SessionId}
-use Rattle.key_layout.specs.declared.Identifier.{Identifier}
 
 -- 3 where the arguments do not fit, 17 where too much is hashed
-abbrev pub reply_of : KeySays → Reply
-reply_of k.Made = made
-reply_of k.Unfit = refused 3
-reply_of k.TooLong = refused 17
+abbrev pub refusal_number : KeyRefusal → ℕ
+refusal_number k.Unfit = 3
+refusal_number k.TooLong = 17
 
-abbrev pub key_told : KeyMade → Outcome
-key_told a = record { reply = reply_of a.says; bytes = a.bytes; size = 0; fixed = [] }
+abbrev pub reply_of : {T : Type 0} → Result T KeyRefusal → Reply
+reply_of (Ok d) = made
+reply_of (Err e) = refused (refusal_number e)
 
-abbrev pub traffic_told : TrafficKeys → Outcome
-traffic_told a = record { reply = reply_of a.says; bytes = a.key; size = a.length; fixed = a.fixed }
+-- bytes, as many zeros beside a refusal
+abbrev pub bytes_told : ℕ → Result (List ℕ) KeyRefusal → Outcome
+bytes_told n (Ok d) = record { reply = made; bytes = d; size = 0; fixed = [] }
+bytes_told n (Err e) = record { reply = refused (refusal_number e); bytes = replicate n 0; size = 0; fixed = [] }
 
-abbrev pub session_told : SessionId → Outcome
-session_told a = record { reply = reply_of a.says; bytes = a.bytes; size = 0; fixed = [] }
+abbrev pub key_told : Result (List ℕ) KeyRefusal → Outcome
+key_told a = bytes_told 32 a
 
-abbrev pub identifier_told : Identifier → Outcome
-identifier_told a = record { reply = reply_of a.says; bytes = a.bytes; size = 0; fixed = [] }
+abbrev pub traffic_told : Result TrafficKeys KeyRefusal → Outcome
+traffic_told (Ok a) = record { reply = made; bytes = a.key; size = a.length; fixed = a.fixed }
+traffic_told (Err e) = record { reply = refused (refusal_number e); bytes = replicate 32 0; size = 0; fixed = replicate 12 0 }
+
+abbrev pub session_told : Result (List ℕ) KeyRefusal → Outcome
+session_told a = bytes_told 33 a
+
+abbrev pub identifier_told : Result (List ℕ) KeyRefusal → Outcome
+identifier_told a = bytes_told 18 a

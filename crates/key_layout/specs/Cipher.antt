@@ -1,6 +1,7 @@
 -- The AEAD ciphers of RFC 8548 (section 5), and the lengths that belong to each.
-use Rattle.std.specs.Prelude.{ℕ, Bool, cond, ◌||◌, eqb}
+use Rattle.std.specs.Prelude.{ℕ, Bool, cond, ◌||◌, eqb, Option, Some, None}
 use Rattle.key_layout.specs.declared.Cipher.{Cipher}
+use Rattle.key_layout.specs.declared.Cipher.TheVariants as v
 
 -- 0001 (AES-128-GCM), 0002 (AES-256-GCM), 0010 (ChaCha20-Poly1305)
 unfoldable pub is_cipher : ℕ → Bool
@@ -14,5 +15,12 @@ key_length c = cond (eqb c 0x0001) 16 (cond (eqb c 0x0002 || eqb c 0x0010) 32 0)
 unfoldable pub fixed_length : ℕ
 fixed_length = 12
 
-unfoldable pub cipher_of : ℕ → Cipher
-cipher_of c = record { number = c; known = is_cipher c; key_length = key_length c }
+-- a cipher's number on the wire
+abbrev pub cipher_number : Cipher → ℕ
+cipher_number v.Aes128Gcm = 0x0001
+cipher_number v.Aes256Gcm = 0x0002
+cipher_number v.Chacha20Poly1305 = 0x0010
+
+-- the cipher with a number, none where it is not known
+unfoldable pub cipher_of : ℕ → Option Cipher
+cipher_of c = cond (eqb c 0x0001) (Some v.Aes128Gcm) (cond (eqb c 0x0002) (Some v.Aes256Gcm) (cond (eqb c 0x0010) (Some v.Chacha20Poly1305) None))

@@ -1,5 +1,5 @@
 -- Worked examples: each label as HKDF gets it, in the RFC's numbers; and what is refused.
-use Rattle.std.specs.Prelude.{◌≡◌, List, [], ◌∷◌, ◌++◌}
+use Rattle.std.specs.Prelude.{◌≡◌, List, [], ◌∷◌}
 use Rattle.key_layout.specs.Outcome.{Reply}
 use Rattle.key_layout.specs.Calls.{Ask, outcome}
 

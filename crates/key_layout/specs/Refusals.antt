@@ -1,7 +1,5 @@
 -- Demand 1 for the key schedule: a reply is `refused n` exactly when n is the least number that applies, and then all bytes are zeros. Assumes nothing.
-use Rattle.std.specs.Prelude.{ℕ, ◌∷◌, ◌↔◌, replicate}
-use Rattle.std.proofs.Math.Path.{◌≡◌}
-use Rattle.std.proofs.Common.{◌∙◌}
+use Rattle.std.specs.Prelude.{ℕ, replicate}
 use Rattle.std.proofs.Math.Option.{Option, none, some}
 use Rattle.key_layout.specs.Outcome.{Reply, refused, made, Outcome}
 use Rattle.key_layout.specs.Calls.{Ask, first_secret, next_secret, master_key, next_master, master_key_at, traffic_keys, session_id, resumption_identifier}

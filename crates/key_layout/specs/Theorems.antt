@@ -1,6 +1,4 @@
 -- What the schedule promises: its chains, the lengths of what it gives, and that 17 is a first secret's alone. Assumes nothing.
-use Rattle.std.specs.Prelude.{◌+◌, ◌≡◌, ◌∷◌, ◌++◌, ◌&&◌, ◌||◌}
-use Rattle.std.proofs.Common.{◌∙◌}
 use Rattle.key_layout.specs.Calls.{Ask, first_secret, next_secret, master_key, next_master, master_key_at, traffic_keys, session_id, resumption_identifier}
 
 -- 17 is told of a first secret alone

@@ -2,7 +2,7 @@
 #![tactic(auto)]
 
 ghost use Rattle.std.specs.Prelude.{◌≡◌};
-ghost use Rattle.key_layout.specs.Cipher.{cipher_of};
+ghost use Rattle.key_layout.specs.Cipher.{cipher_number, cipher_of, key_length};
 
 // The constants of RFC 8548, 4.3, which begin a label.
 pub const NEXT_KEY: u8 = 0x01;
@@ -17,14 +17,12 @@ pub const KEY_B: u8 = 0x05;
 
 pub const RESUME: u8 = 0x06;
 
-// An AEAD cipher by its number on the wire.
-#[derive(Clone, Copy)]
-pub struct Cipher {
-    pub number: u16,
-    // Whether the schedule knows it.
-    pub known: bool,
-    // How long its key is; 0 where it is not known.
-    pub key_length: usize,
+// An AEAD cipher that the schedule knows.
+#[derive(Clone, Copy, PartialEq, Eq)]
+pub enum Cipher {
+    Aes128Gcm,
+    Aes256Gcm,
+    Chacha20Poly1305,
 }
 
 impl Cipher {
@@ -38,72 +36,56 @@ impl Cipher {
 
     pub const KEY_256: usize = 32;
 
-    pub fn of(number: u16) -> Cipher
+    // The cipher with a number on the wire, if the schedule knows it.
+    #[tactic(auto, using(crate::proofs::CipherLaws::cipher_128, crate::proofs::CipherLaws::cipher_256, crate::proofs::CipherLaws::cipher_chacha, crate::proofs::CipherLaws::cipher_unknown))]
+    pub fn of(number: u16) -> Option<Cipher>
         ensures { result ≡ cipher_of number }
     {
         if number == Cipher::AES_128_GCM {
-            return Cipher {
-                number,
-                known: true,
-                key_length: Cipher::KEY_128,
-            };
+            Some(Cipher::Aes128Gcm)
+        } else if number == Cipher::AES_256_GCM {
+            Some(Cipher::Aes256Gcm)
+        } else if number == Cipher::CHACHA20_POLY1305 {
+            Some(Cipher::Chacha20Poly1305)
+        } else {
+            None
         }
-        if number == Cipher::AES_256_GCM {
-            return Cipher {
-                number,
-                known: true,
-                key_length: Cipher::KEY_256,
-            };
+    }
+
+    // Its number on the wire.
+    pub fn number(self) -> u16
+        ensures { result ≡ cipher_number self }
+    {
+        match self {
+            Cipher::Aes128Gcm => Cipher::AES_128_GCM,
+            Cipher::Aes256Gcm => Cipher::AES_256_GCM,
+            Cipher::Chacha20Poly1305 => Cipher::CHACHA20_POLY1305,
         }
-        if number == Cipher::CHACHA20_POLY1305 {
-            return Cipher {
-                number,
-                known: true,
-                key_length: Cipher::KEY_256,
-            };
-        }
-        Cipher {
-            number,
-            known: false,
-            key_length: 0,
+    }
+
+    // How long its key is.
+    pub fn key_length(self) -> usize
+        ensures { result ≡ key_length (cipher_number self) }
+    {
+        match self {
+            Cipher::Aes128Gcm => Cipher::KEY_128,
+            Cipher::Aes256Gcm => Cipher::KEY_256,
+            Cipher::Chacha20Poly1305 => Cipher::KEY_256,
         }
     }
 }
 
-// What a call says.
-#[derive(Clone, Copy)]
-pub enum KeySays {
-    Made,
+// Why a call is refused. A call gives a secret, a master key, a session ID or an identifier as an array of its bytes.
+#[derive(Clone, Copy, PartialEq, Eq)]
+pub enum KeyRefusal {
     Unfit,
     TooLong,
 }
 
-// A secret or a master key, zeros beside a refusal.
-#[derive(Clone, Copy)]
-pub struct KeyMade {
-    pub says: KeySays,
-    pub bytes: [u8; 32],
-}
-
-// What one host encrypts with: the cipher's key, its length, zeros behind it, and the fixed nonce; zeros beside a refusal.
+// What one host encrypts with: the cipher's key, its length, zeros behind it, and the fixed nonce. The memory is fixed, so a key of 16 bytes stands in 32 with its length beside it.
 #[derive(Clone, Copy)]
 pub struct TrafficKeys {
-    pub says: KeySays,
     pub length: usize,
     pub key: [u8; 32],
     pub fixed: [u8; 12],
-}
-
-// A session ID, zeros beside a refusal.
-#[derive(Clone, Copy)]
-pub struct SessionId {
-    pub says: KeySays,
-    pub bytes: [u8; 33],
-}
-
-// A resumption identifier, zeros beside a refusal.
-#[derive(Clone, Copy)]
-pub struct Identifier {
-    pub says: KeySays,
-    pub bytes: [u8; 18],
 }

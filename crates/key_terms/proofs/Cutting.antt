@@ -19,17 +19,12 @@ use Rattle.key_terms.specs.Calls.{refused, no_terms, Outcome, zeros, given, unle
 use Rattle.key_terms.proofs.Wholes.{whole_short}
 use Rattle.key_terms.proofs.Giving.{own_none, peer_none}
 
--- whether a TEP is known
-pub known_told : (t : ℕ) (x : Tep) (b : Bool) → x ≡ tep_of t → x.known ≡ b → is_known t ≡ b
-unfolding tep_of
-known_told t x b e f = sym (ap (λ (y : Tep). y.known) e) ∙ f
+-- a known TEP's range
+pub known_low : (t : ℕ) → is_known t ≡ true → 0x21 ≤ t
+known_low t k = (known_range t k).0
 
--- a known TEP's range, by the test of the code
-pub known_low : (t : ℕ) (x : Tep) → x ≡ tep_of t → not x.known ≡ false → 0x21 ≤ t
-known_low t x e f = (known_range t (known_told t x true e (not-false x.known f))).0
-
-pub known_high : (t : ℕ) (x : Tep) → x ≡ tep_of t → not x.known ≡ false → t ≤ 0x24
-known_high t x e f = (known_range t (known_told t x true e (not-false x.known f))).1
+pub known_high : (t : ℕ) → is_known t ≡ true → t ≤ 0x24
+known_high t k = (known_range t k).1
 
 -- no second byte: the first option is empty
 a_short : (s : List ℕ) → length s < 2 → false ≡ is_whole (option_of_a s)

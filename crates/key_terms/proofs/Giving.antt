@@ -9,14 +9,8 @@ use Rattle.wire.specs.Bytes.{part, pasted}
 use Rattle.wire.specs.ByteLaws.{pasted_fits, length_part}
 use Rattle.key_terms.specs.Terms.{Data, resumption_data, half_in, nonce_in, original_role, keyed_by, carrying, terms_by}
 use Rattle.key_terms.specs.Calls.{resumed, no_terms, Outcome, in_eight, zeros, given}
-use Rattle.key_terms.specs.Answers.{says_of, terms_told}
-use Rattle.key_terms.specs.declared.TermsSays.{TermsSays}
 use Rattle.key_terms.specs.Laws.{DataFits}
 use Rattle.key_terms.proofs.Laws.{data_fits}
-
-pub without_terms : (x : TermsSays) → terms_told (record { says = x; original = 0; length_a = 0; nonce_a = replicate 8 0; length_b = 0; nonce_b = replicate 8 0 }) ≡ zeros (says_of x)
-unfolding zeros
-without_terms x = refl
 
 zeros_left : (n m : ℕ) → drop n (replicate {A = ℕ} m 0) ≡ replicate (m - n) 0
 zeros_left zero m = ap (λ k. replicate k 0) (let q : m ≡ m - 0 = omega arith in q)

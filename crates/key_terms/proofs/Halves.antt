@@ -18,13 +18,6 @@ half_at o at identifier from e m h w q p =
     let l : length m ≡ 9 = ap length p' ∙ simp (length-take, length-drop) (omega arith) in
     ap (λ k. same_bytes (take k (drop at o)) m) l ∙ ap (same_bytes (take 9 (drop at o))) p'
 
--- both stand, or the first does not
-pub both_if : (b c x y : Bool) → b ≡ x → b ≡ true → c ≡ y → c ≡ x && y
-both_if b c x y e t f = f ∙ sym (ap (λ z. z && y) (sym e ∙ t))
-
-pub both_not : (b x y : Bool) → b ≡ x → b ≡ false → false ≡ x && y
-both_not b x y e f = sym (ap (λ z. z && y) (sym e ∙ f))
-
 module _ (identifier mine theirs : List ℕ) (a : Bool) (ea : a ≡ same_bytes (part 0 9 identifier) (part 9 9 identifier)) where
   pub role_equal : a ≡ true → none ≡ original_role identifier mine theirs
   unfolding original_role

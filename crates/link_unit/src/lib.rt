@@ -8,7 +8,8 @@ ghost use Rattle.unit_bytes.specs.Content.{unit_in};
 ghost use Rattle.pool.specs.Placed.{Erased};
 ghost use Rattle.unit_step.specs.Steps.{step_of};
 
-use door::Reply;
+pub use door::Resulted;
+use door::{Refusal, Reply};
 pub use unit::{DOORS, ROWS, WORDS};
 pub use unit_answer::answer;
 pub use unit_bytes::{PLACE, ROW, WORD};
@@ -19,7 +20,6 @@ pub use unit_offer::offer;
 pub use unit_receive::receive;
 pub use unit_resend::resend;
 pub use unit_result::result;
-pub use unit_step::Resulted;
 pub use unit_store::store;
 
 // Empties the whole unit, whatever its bytes are: all doors Idle, no record held or in hand, every byte zero.
@@ -27,9 +27,9 @@ pub fn erase(
     marks: &mut [u32; WORDS],
     rows: &mut [[u8; ROW]; ROWS],
     doors: &mut [[u8; PLACE]; DOORS],
-) -> Reply
+) -> Result<Reply, Refusal>
     ensures { (step_of result [] (unit_in marks.new rows.new doors.new) ≡ step (unit_in marks.old rows.old doors.old) run.erase) × Erased marks.new rows.new doors.new }
 {
     pool::erase(marks, rows, doors);
-    Reply::Done
+    Ok(Reply::Done)
 }

@@ -6,26 +6,20 @@ ghost use Rattle.unit.specs.Numbers.{words_n};
 ghost use Rattle.unit.specs.Marks.{marks_in};
 ghost use Rattle.unit.specs.Unit.{first_free};
 
-use unit::{ROWS, WORDS};
-
-fn wide(x: u32) -> usize
-    ensures { result ≡ x }
-{
-    x as usize
-}
+use unit::WORDS;
 
 // The lowest row that is not marked; the number of rows where all are. There is a word for every 32 rows.
+// A number and no Option: `with_record` tests any row number against ROWS, and `first_free`, of which `takes_lowest` speaks, is the number of rows where none is free.
 pub fn lowest_unmarked(words: [u32; WORDS]) -> usize
     ensures { (result ≡ first_free (marks_in words)) × (length words ≡ words_n) }
 {
-    let mut i = 0;
-    while i < WORDS {
-        let word = words[i];
-        let marked = wide(marks_word::trailing_marked(word));
+    let mut row = 0;
+    for word in words {
+        let marked = marks_word::trailing_marked(word) as usize;
         if marked < 32 {
-            return 32 * i + marked;
+            return row + marked;
         }
-        i += 1;
+        row += 32;
     }
-    ROWS
+    row
 }

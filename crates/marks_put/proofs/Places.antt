@@ -1,82 +1,93 @@
--- One bit of a word, as numbers: the word with its k-th bit set is 2 ^ k more, with it cleared 2 ^ k less.
+-- One bit of a word: the word or 2 ^ k has the k-th bit set, and the word without 2 ^ k has it clear.
 use mathlib.Core.Path.{◌≡◌, refl, sym, ap, ◌∙◌}
 use mathlib.Core.Bool.{Bool, true, false}
 use mathlib.Core.List.{List}
 use Prim.Native.Nat.{ℕ, zero, suc, ◌+◌, ◌-◌, ◌*◌, ◌/◌, ◌%◌, ◌^◌, ◌≤◌, ◌<◌}
-use native.Mathlib.Nat.{pow-suc, mul_comm, mul_assoc, div-div-eq-div-mul}
+use native.Mathlib.Nat.{pow-suc}
+use Rattle.std.proofs.Math.Nat.{mod-eq_of_lt}
 use native.Mathlib.Omega.{arith}
+use lib.Bits.{bit_and}
 use lib.ListN.{length, get_or, set}
 use lib.Seq.{set_out}
+use Rattle.std.specs.Int.RustNames.{bit_or}
+use Rattle.std.specs.Int.Bits.{or_zero_r}
+use Rattle.std.proofs.lemmas.Nat.{or_block, and_block, and_mask, one_shl}
 use Rattle.unit.specs.Numbers.{word_n}
 use Rattle.unit.specs.Marks.{with_bit, with_mark, mark_for}
 
-sum_step : (x m q w b : ℕ) → x + m * q ≡ w / 2 + b * q → x * 2 + w % 2 + m * (q * 2) ≡ w + b * (q * 2)
-sum_step x m q w b h =
-    let e : m * (q * 2) ≡ m * q * 2 = sym (mul_assoc m q 2) in
-    let f : b * (q * 2) ≡ b * q * 2 = sym (mul_assoc b q 2) in
-    omega (arith, h, e, f)
+-- the lowest bit
+or_low : (b : ℕ) → b < 2 → bit_or b 1 ≡ 1
+or_low zero h = refl
+or_low (suc zero) h = refl
+or_low (suc (suc b)) h = absurd (omega arith)
 
--- the word afterwards and the bit before are the word before and the bit afterwards
-bit_sum : (w k b : ℕ) → with_bit w k b + w / 2 ^ k % 2 * 2 ^ k ≡ w + b * 2 ^ k
-unfolding with_bit
-bit_sum w zero b = omega arith
-bit_sum w (suc k) b =
-    let p : 2 ^ suc k ≡ 2 ^ k * 2 = pow-suc 2 k in
-    let d : w / 2 ^ suc k ≡ w / 2 / 2 ^ k = ap (λ (x : ℕ). w / x) (p ∙ mul_comm (2 ^ k) 2) ∙ sym (div-div-eq-div-mul w 2 (2 ^ k)) in
-    rw d (rw p (sum_step (with_bit (w / 2) k b) (w / 2 / 2 ^ k % 2) (2 ^ k) w b (bit_sum (w / 2) k b)))
+or_none : (b : ℕ) → b < 2 → bit_or b 0 ≡ b
+or_none zero h = refl
+or_none (suc zero) h = refl
+or_none (suc (suc b)) h = absurd (omega arith)
 
-with_bit_lt : (n w k b : ℕ) → w < 2 ^ n → k < n → b ≤ 1 → with_bit w k b < 2 ^ n
+and_low : (b : ℕ) → b < 2 → bit_and b 1 ≡ b
+and_low zero h = refl
+and_low (suc zero) h = refl
+and_low (suc (suc b)) h = absurd (omega arith)
+
+and_none : (b : ℕ) → b < 2 → bit_and b 0 ≡ 0
+and_none zero h = refl
+and_none (suc zero) h = refl
+and_none (suc (suc b)) h = absurd (omega arith)
+
+halved : (w : ℕ) → w ≡ w / 2 * 2 ^ 1 + w % 2
+halved w = omega arith
+
+module _ (w m b : ℕ) (low : b < 2) where
+  or_halved : bit_or w (m * 2 + b) ≡ bit_or (w / 2) m * 2 + bit_or (w % 2) b
+  or_halved = ap (λ (x : ℕ). bit_or x (m * 2 + b)) (halved w) ∙ or_block 1 (w / 2) m (w % 2) b (omega arith) low
+
+  and_halved : bit_and w (m * 2 + b) ≡ bit_and (w / 2) m * 2 + bit_and (w % 2) b
+  and_halved = ap (λ (x : ℕ). bit_and x (m * 2 + b)) (halved w) ∙ and_block 1 (w / 2) m (w % 2) b (omega arith) low
+
+bit_set : (w k : ℕ) → bit_or w (2 ^ k) ≡ with_bit w k 1
 unfolding with_bit
-with_bit_lt zero w k b h l m = absurd (omega arith)
-with_bit_lt (suc n) w zero b h l m = let p : 2 ^ suc n ≡ 2 ^ n * 2 = pow-suc 2 n in omega (arith, p)
-with_bit_lt (suc n) w (suc k) b h l m =
-    let p : 2 ^ suc n ≡ 2 ^ n * 2 = pow-suc 2 n in
-    omega (arith, p, with_bit_lt n (w / 2) k b (omega (arith, p)) (omega arith) m)
+bit_set w zero =
+    let e : bit_or (w / 2) 0 ≡ w / 2 = or_zero_r (w / 2) in
+    or_halved w 0 1 (omega arith) ∙ rw (e, or_low (w % 2) (omega arith)) refl
+bit_set w (suc k) =
+    let p : 2 ^ suc k ≡ 2 ^ k * 2 + 0 = omega (arith, pow-suc 2 k) in
+    ap (bit_or w) p ∙ (or_halved w (2 ^ k) 0 (omega arith) ∙ rw (bit_set (w / 2) k, or_none (w % 2) (omega arith)) refl)
 
 pow_positive : (n : ℕ) → 0 < 2 ^ n
 pow_positive zero = omega arith
 pow_positive (suc n) = omega (arith, pow-suc 2 n, pow_positive n)
 
--- a bit's value is less than the word's number of values, so that it is not cut off
+-- a bit's value is less than the word's number of values
 pow_less : (k n : ℕ) → k < n → 2 ^ k < 2 ^ n
 pow_less k zero h = absurd (omega arith)
 pow_less zero (suc n) h = omega (arith, pow-suc 2 n, pow_positive n)
 pow_less (suc k) (suc n) h = omega (arith, pow-suc 2 n, pow-suc 2 k, pow_less k n (omega arith))
 
-pub place_is : (k : ℕ) → k < 32 → 1 * 2 ^ k % 4294967296 ≡ 2 ^ k
-place_is k h = omega (arith, pow_less k 32 h)
+bit_clear : (n w k : ℕ) → w < 2 ^ n → k < n → bit_and w (2 ^ n - 1 - 2 ^ k) ≡ with_bit w k 0
+unfolding with_bit
+bit_clear zero w k h l = absurd (omega arith)
+bit_clear (suc n) w zero h l =
+    let p : 2 ^ suc n - 1 - 1 ≡ (2 ^ n - 1) * 2 + 0 = omega (arith, pow-suc 2 n) in
+    let e : bit_and (w / 2) (2 ^ n - 1) ≡ w / 2 = and_mask (w / 2) n ∙ mod-eq_of_lt (omega (arith, pow-suc 2 n)) in
+    ap (bit_and w) p ∙ (and_halved w (2 ^ n - 1) 0 (omega arith) ∙ rw (e, and_none (w % 2) (omega arith)) refl)
+bit_clear (suc n) w (suc k) h l =
+    let p : 2 ^ suc n - 1 - 2 ^ suc k ≡ (2 ^ n - 1 - 2 ^ k) * 2 + 1 = omega (arith, pow-suc 2 n, pow-suc 2 k, pow_less k n (omega arith)) in
+    ap (bit_and w) p ∙ (and_halved w (2 ^ n - 1 - 2 ^ k) 1 (omega arith) ∙ rw (bit_clear n (w / 2) k (omega (arith, pow-suc 2 n)) (omega arith), and_low (w % 2) (omega arith)) refl)
 
--- the bit was set
-module _ (w k : ℕ) (was : w / 2 ^ k % 2 ≡ 1) where
-  sum_set : (b : ℕ) → with_bit w k b + 2 ^ k ≡ w + b * 2 ^ k
-  sum_set b = let e : with_bit w k b + 1 * 2 ^ k ≡ w + b * 2 ^ k = rw was at (bit_sum w k b) in omega (arith, e)
+-- the two ways of a mark in a word
+module _ (w k : ℕ) (within : k < 32) (used : Bool) where
+  place_is : 1 * 2 ^ k % 4294967296 ≡ 2 ^ k
+  place_is = one_shl k 32 within
 
-  pub stays_set : (used : Bool) → used ≡ true → w ≡ with_bit w k (mark_for used)
+  pub marked : used ≡ true → bit_or w (1 * 2 ^ k % 4294967296) ≡ with_bit w k (mark_for used)
   unfolding mark_for
-  stays_set used e = rw e (omega (arith, sum_set 1))
+  marked e = rw e (ap (bit_or w) place_is ∙ bit_set w k)
 
-  pub cleared : (used : Bool) (place : ℕ) → used ≡ false → place ≡ 2 ^ k → w - place ≡ with_bit w k (mark_for used)
+  pub unmarked : used ≡ false → w < 2 ^ 32 → bit_and w (4294967295 - 1 * 2 ^ k % 4294967296) ≡ with_bit w k (mark_for used)
   unfolding mark_for
-  cleared used place e p = rw e (omega (arith, sum_set 0, p))
-
-  pub place_fits : (place : ℕ) → place ≡ 2 ^ k → place ≤ w
-  place_fits place p = omega (arith, sum_set 0, p)
-
--- the bit was clear
-module _ (w k : ℕ) (was : w / 2 ^ k % 2 ≡ 0) where
-  sum_clear : (b : ℕ) → with_bit w k b ≡ w + b * 2 ^ k
-  sum_clear b = let e : with_bit w k b + 0 * 2 ^ k ≡ w + b * 2 ^ k = rw was at (bit_sum w k b) in omega (arith, e)
-
-  pub stays_clear : (used : Bool) → used ≡ false → w ≡ with_bit w k (mark_for used)
-  unfolding mark_for
-  stays_clear used e = rw e (omega (arith, sum_clear 0))
-
-  pub marked_now : (used : Bool) (place : ℕ) → used ≡ true → place ≡ 2 ^ k → w + place ≡ with_bit w k (mark_for used)
-  unfolding mark_for
-  marked_now used place e p = rw e (omega (arith, sum_clear 1, p))
-
-  pub sum_fits : (n place : ℕ) → w < 2 ^ n → k < n → place ≡ 2 ^ k → w + place < 2 ^ n
-  sum_fits n place h l p = omega (arith, with_bit_lt n w k 1 h l (omega arith), sum_clear 1, p)
+  unmarked e h = rw e (ap (λ (p : ℕ). bit_and w (4294967295 - p)) place_is ∙ bit_clear 32 w k h within)
 
 -- past the last word, and in one
 module _ (words : List ℕ) (row b : ℕ) where

@@ -13,31 +13,17 @@ fn with_bit(word: u32, k: u32, used: bool) -> u32
     ensures { result ≡ with_bit word k (mark_for used) }
 {
     let place = 1u32 << k;
-    let bit = (word >> k) % 2;
-    if bit == 1 {
-        if used {
-            return word;
-        }
-        return word - place;
-    }
-    if used {
-        return word + place;
-    }
-    word
+    if used { word | place } else { word & !place }
 }
 
 // The words with the mark of a row set or cleared; past the last row nothing is changed.
 pub fn with_mark(words: [u32; WORDS], row: usize, used: bool) -> [u32; WORDS]
     ensures { result ≡ with_mark words row (mark_for used) }
 {
-    let at = row / 32;
-    if WORDS <= at {
-        return words;
-    }
-    let k = (row % 32) as u32;
-    let word = words[at];
-    let changed = with_bit(word, k, used);
     let mut after = words;
-    after[at] = changed;
+    let at = row / 32;
+    if at < WORDS {
+        after[at] = with_bit(words[at], (row % 32) as u32, used);
+    }
     after
 }

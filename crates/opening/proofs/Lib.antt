@@ -1,3 +1,2 @@
 -- Laws for the proofs.
-pub mod Terms
 pub mod Held

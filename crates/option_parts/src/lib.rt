@@ -13,8 +13,7 @@ use eno::{InHand, SessionRecord};
 pub fn put(s: &mut [u8], at: usize, x: u8)
     ensures { s.new ≡ pasted s.old at (x ∷ []) }
 {
-    let one = [x];
-    wire::copy(s, at, &one);
+    wire::copy(s, at, &[x]);
 }
 
 // Writes the global byte if it is not zero, and gives the place after it.
@@ -43,12 +42,9 @@ pub fn sent_half(session: SessionRecord) -> [u8; 9]
 }
 
 // Whether t is the TEP of the record in hand.
+#[tactic(auto, unfolding(option_layout::specs::Puts::of_hand, eno::specs::Session::in_hand))]
 pub fn is_in_hand(hand: InHand, t: u8) -> bool
     ensures { result ≡ of_hand (in_hand hand) t }
 {
-    if !hand.held {
-        return false;
-    }
-    let session = hand.session;
-    t == session.tep
+    hand.held && t == hand.session.tep
 }

@@ -1,24 +1,30 @@
 -- The answers of the writer, in document 01's numbers.
-use Rattle.std.specs.Prelude.{ℕ, ◌≡◌, refl}
+use Rattle.std.specs.Prelude.{ℕ, ◌≡◌, refl, Result, Ok, Err}
 use Rattle.std.proofs.Common.{ap, arith}
 use Rattle.eno.specs.Option.{Writing, wrote, refused_with}
-use Rattle.option_writer.specs.declared.OptionWritten.{OptionWritten}
-use Rattle.option_writer.specs.declared.OptionWritten.TheVariants as says
+use Rattle.option_writer.specs.declared.OptionRefusal.{OptionRefusal}
+use Rattle.option_writer.specs.declared.OptionRefusal.TheVariants as refusal
 
--- how many bytes were written; 3 for arguments that do not fit, 5 for a lent buffer that is too short
-abbrev pub writing_of : OptionWritten → Writing
-writing_of (says.Wrote n) = wrote n
-writing_of says.Unfit = refused_with 3
-writing_of says.NoRoom = refused_with 5
+-- 3 for arguments that do not fit, 5 for a lent buffer that is too short
+abbrev pub option_refusal_number : OptionRefusal → ℕ
+option_refusal_number refusal.Unfit = 3
+option_refusal_number refusal.NoRoom = 5
+
+-- how many bytes were written, or the number of the refusal
+abbrev pub writing_of : Result ℕ OptionRefusal → Writing
+writing_of (Ok n) = wrote n
+writing_of (Err r) = refused_with (option_refusal_number r)
+
+-- the number loses nothing
+pub option_refusal_number_tells : (a b : OptionRefusal) → option_refusal_number a ≡ option_refusal_number b → a ≡ b
+option_refusal_number_tells refusal.Unfit refusal.Unfit e = refl
+option_refusal_number_tells refusal.Unfit refusal.NoRoom e = absurd (omega arith)
+option_refusal_number_tells refusal.NoRoom refusal.Unfit e = absurd (omega arith)
+option_refusal_number_tells refusal.NoRoom refusal.NoRoom e = refl
 
 -- the view loses nothing
-pub writing_tells : (a b : OptionWritten) → writing_of a ≡ writing_of b → a ≡ b
-writing_tells (says.Wrote m) (says.Wrote n) e = let p : m ≡ n = cc in ap says.Wrote p
-writing_tells (says.Wrote m) says.Unfit e = let z : ◌≡◌ {A = ℕ} 0 1 = cc in absurd (omega arith)
-writing_tells (says.Wrote m) says.NoRoom e = let z : ◌≡◌ {A = ℕ} 0 1 = cc in absurd (omega arith)
-writing_tells says.Unfit (says.Wrote n) e = let z : ◌≡◌ {A = ℕ} 0 1 = cc in absurd (omega arith)
-writing_tells says.Unfit says.Unfit e = refl
-writing_tells says.Unfit says.NoRoom e = let z : ◌≡◌ {A = ℕ} 3 5 = cc in absurd (omega arith)
-writing_tells says.NoRoom (says.Wrote n) e = let z : ◌≡◌ {A = ℕ} 0 1 = cc in absurd (omega arith)
-writing_tells says.NoRoom says.Unfit e = let z : ◌≡◌ {A = ℕ} 5 3 = cc in absurd (omega arith)
-writing_tells says.NoRoom says.NoRoom e = refl
+pub writing_tells : (a b : Result ℕ OptionRefusal) → writing_of a ≡ writing_of b → a ≡ b
+writing_tells (Ok m) (Ok n) e = let p : m ≡ n = cc in ap Ok p
+writing_tells (Ok m) (Err b) e = absurd (cc)
+writing_tells (Err a) (Ok n) e = absurd (cc)
+writing_tells (Err a) (Err b) e = let p : option_refusal_number a ≡ option_refusal_number b = cc in ap Err (option_refusal_number_tells a b p)

@@ -11,14 +11,14 @@ ghost use Rattle.option_layout.specs.Steps.{MayPutLast, write_bytes};
 
 use eno::InHand;
 
-// What a writer answers.
-#[derive(Clone, Copy)]
-pub enum OptionWritten {
-    Wrote(usize),
+// Why no option is written: its arguments do not fit, or the lent buffer is too short.
+#[derive(Clone, Copy, PartialEq, Eq)]
+pub enum OptionRefusal {
     Unfit,
     NoRoom,
 }
 
+#[tactic(auto, unfolding(eno::specs::Option::global_of))]
 fn global_byte(b: u8, aware: bool) -> u8
     requires { b ≤ 1 }
     ensures { result ≡ global_of b aware }
@@ -44,11 +44,8 @@ fn put_fresh(s: &mut [u8], at: usize, list: &[u8], hand: InHand) -> usize
     ensures { Puts s.old at (fresh_teps (in_hand hand) list.now) s.new result }
 {
     let mut next = at;
-    let mut i = 0;
-    while i < list.len() {
-        let t = list[i];
-        next = put_if_fresh(s, next, t, hand);
-        i += 1;
+    for t in list {
+        next = put_if_fresh(s, next, *t, hand);
     }
     next
 }
@@ -69,22 +66,22 @@ fn put_last(s: &mut [u8], at: usize, hand: InHand, nonce: &[u8]) -> usize
     at + 10 + nonce.len()
 }
 
-// Writes kind, length and contents to the lent buffer, or nothing where they do not fit.
-fn finish(out: &mut [u8], contents: &[u8]) -> OptionWritten
+// Writes kind, length and contents to the lent buffer, or nothing where they do not fit, and tells how many bytes.
+fn finish(out: &mut [u8], contents: &[u8]) -> Result<usize, OptionRefusal>
     requires { length contents.now ≤ 38 }
     ensures { written_as (writing_of result) out.new ≡ write_bytes (eno_kind ∷ (length contents.now + 2) ∷ contents.now) out.old }
 {
     let n = contents.len() + 2;
     if out.len() < n {
-        return OptionWritten::NoRoom;
+        return Err(OptionRefusal::NoRoom);
     }
     option_parts::put(out, 0, 0x45);
     option_parts::put(out, 1, n as u8);
     wire::copy(out, 2, contents);
-    OptionWritten::Wrote(n)
+    Ok(n)
 }
 
-// The option of an offer: the role b, a, the TEP list in rising priority, the session to resume, if any, and its nonce.
+// The option of an offer: the role b, a, the TEP list in rising priority, the session to resume, if any, and its nonce. Tells how many bytes it wrote.
 pub fn write_offer(
     b: u8,
     aware: bool,
@@ -92,11 +89,11 @@ pub fn write_offer(
     hand: InHand,
     nonce: &[u8],
     out: &mut [u8],
-) -> OptionWritten
+) -> Result<usize, OptionRefusal>
     ensures { written_as (writing_of result) out.new ≡ write_offer b aware list.now (in_hand hand) nonce.now out.old }
 {
     if !option_arguments::offer_fits(b, list, hand, nonce) {
-        return OptionWritten::Unfit;
+        return Err(OptionRefusal::Unfit);
     }
     let mut contents = [0u8; 40];
     let g = global_byte(b, aware);

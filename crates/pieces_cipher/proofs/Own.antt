@@ -17,43 +17,43 @@ use Rattle.pieces_cipher.specs.Choosing.{own_count, chosen_in}
 
 -- looked ciphers are others, and whether the cipher is listed hangs on those left
 module _ (g : List ℕ) (count c : ℕ) where
-  pub record Looked (looked place : ℕ) : Type 0 where
-    pub within : looked ≤ count
-    pub at : place ≡ 4096 + 2 * looked
+  pub record Looked (looked : ℕ) : Type 0 where
     pub left : ℕ
     pub sum : looked + left ≡ count
-    pub later : is_listed c (ciphers_at count g 4096) ≡ is_listed c (ciphers_at left g place)
+    pub later : is_listed c (ciphers_at count g 4096) ≡ is_listed c (ciphers_at left g (4096 + 2 * looked))
 
-  pub looked_start : Looked 0 4096
-  looked_start = record { within = omega arith; at = omega arith; left = count; sum = omega arith; later = refl }
+  pub looked_start : Looked 0
+  looked_start = record { left = count; sum = omega arith; later = refl }
 
-  module _ (looked place : ℕ) (so_far : Looked looked place) where
+  module _ (looked : ℕ) (so_far : Looked looked) where
     pub looked_all : count ≤ looked → false ≡ is_listed c (ciphers_at count g 4096)
     unfolding ciphers_at is_listed
     looked_all h =
         let e : so_far.left ≡ 0 = omega (arith, so_far.sum) in
-        sym (so_far.later ∙ ap (λ k. is_listed c (ciphers_at k g place)) e)
+        sym (so_far.later ∙ ap (λ k. is_listed c (ciphers_at k g (4096 + 2 * looked))) e)
 
-    module _ (in_List : looked < count) (x : ℕ) (is-next : x ≡ number_at 2 g place) where
-      one_more : is_listed c (ciphers_at count g 4096) ≡ (eqb x c || is_listed c (ciphers_at (so_far.left - 1) g (place + 2)))
+    module _ (in_List : looked < count) (x : ℕ) (is-next : x ≡ number_at 2 g (4096 + 2 * looked)) where
+      one_more : is_listed c (ciphers_at count g 4096) ≡ (eqb x c || is_listed c (ciphers_at (so_far.left - 1) g (4096 + 2 * looked + 2)))
       unfolding ciphers_at is_listed
       one_more =
           let e : so_far.left ≡ suc (so_far.left - 1) = omega (arith, so_far.sum) in
           so_far.later
-          ∙ (ap (λ k. is_listed c (ciphers_at k g place)) e
-          ∙ ap (λ y. eqb y c || is_listed c (ciphers_at (so_far.left - 1) g (place + 2))) (sym is-next))
+          ∙ (ap (λ k. is_listed c (ciphers_at k g (4096 + 2 * looked))) e
+          ∙ ap (λ y. eqb y c || is_listed c (ciphers_at (so_far.left - 1) g (4096 + 2 * looked + 2))) (sym is-next))
 
       pub looked_here : x ≡ c → true ≡ is_listed c (ciphers_at count g 4096)
-      looked_here e = sym (one_more ∙ ap (λ b. b || is_listed c (ciphers_at (so_far.left - 1) g (place + 2))) (eq-eqb x c e))
+      looked_here e = sym (one_more ∙ ap (λ b. b || is_listed c (ciphers_at (so_far.left - 1) g (4096 + 2 * looked + 2))) (eq-eqb x c e))
 
-      pub looked_next : (x ≡ c → ⊥) → Looked (looked + 1) (place + 2)
+      pub looked_next : (x ≡ c → ⊥) → Looked (looked + 1)
       looked_next d =
+          let further : 4096 + 2 * looked + 2 ≡ 4096 + 2 * (looked + 1) = omega arith in
           record {
-            within = omega arith;
-            at = omega (arith, so_far.at);
             left = so_far.left - 1;
             sum = omega (arith, so_far.sum);
-            later = one_more ∙ ap (λ b. b || is_listed c (ciphers_at (so_far.left - 1) g (place + 2))) (ne_eqb x c d);
+            later =
+                one_more
+                ∙ (ap (λ b. b || is_listed c (ciphers_at (so_far.left - 1) g (4096 + 2 * looked + 2))) (ne_eqb x c d)
+                ∙ ap (λ k. is_listed c (ciphers_at (so_far.left - 1) g k)) further);
           }
 
 -- how many there are

@@ -9,7 +9,6 @@ ghost use Rattle.pieces_layout.specs.Reader.{enabled_in};
 ghost use Rattle.pieces_cipher.specs.Choosing.{own_count, chosen_in};
 
 use init_layout::Enabled;
-use init_steps::Choice;
 
 // The ciphers that the low three bits say are enabled.
 fn enabled_in(second: u64) -> Enabled
@@ -40,30 +39,26 @@ fn is_own(gathered: &[u8], count: usize, cipher: u16) -> bool
     requires { count ≤ 255 }
     ensures { result ≡ is_listed cipher (ciphers_at count gathered.now 4096) }
 {
-    let mut looked = 0;
-    let mut place = 4096;
-    while looked < count {
-        let own = wire_numbers::read_u16(gathered, place);
+    for i in 0..count {
+        let own = wire_numbers::read_u16(gathered, 4096 + 2 * i);
         if own == cipher {
             return true;
         }
-        looked += 1;
-        place += 2;
     }
     false
 }
 
 // The cipher that is taken: of Init1 the first that is enabled, of Init2 its own where A's Init1 listed it.
-pub fn choose(two: bool, second: u64, gathered: &[u8]) -> Choice
+pub fn choose(two: bool, second: u64, gathered: &[u8]) -> Option<u16>
     ensures { choice_of result ≡ chosen_in two second gathered.now }
 {
     if two {
         let cipher = wire_numbers::read_u16(gathered, 8);
         let count = own_count(second);
         if is_own(gathered, count, cipher) {
-            return Choice::Took(cipher);
+            return Some(cipher);
         }
-        return Choice::Nothing;
+        return None;
     }
     let enabled = enabled_in(second);
     init_choice::first_enabled(enabled, gathered)

@@ -6,7 +6,6 @@ ghost use Rattle.frame_layout.specs.Layout.{no_frame};
 ghost use Rattle.pieces_layout.specs.Step.{least_in};
 ghost use Rattle.pieces_frames.specs.Frames.{again_of, Stops, Heads, HeadsLast, FedBody, FedFrames};
 
-use frame_layout::NextOffset;
 use pieces_layout::{Fed, PieceSays};
 use pieces_steps::{set_numbers, waiting};
 
@@ -80,8 +79,8 @@ fn third(numbers: &mut [u64], at: u64, control: u8, high: u8, low: u8, used: usi
     let clen = wire::wide(high) * 256 + wire::wide(low);
     let after = frame_offset::next_offset(offset, clen);
     match after {
-        NextOffset::NoFrame => stop(numbers, at),
-        NextOffset::Next(next) => {
+        None => stop(numbers, at),
+        Some(next) => {
             let begins = at + 1;
             set_numbers(numbers, begins, begins, next, 3);
             let rekey = control % 2 == 1;
@@ -104,11 +103,7 @@ fn third(numbers: &mut [u64], at: u64, control: u8, high: u8, low: u8, used: usi
 fn is_none(offset: u64, clen: usize) -> bool
     ensures { result ≡ no_frame offset clen }
 {
-    let after = frame_offset::next_offset(offset, clen);
-    match after {
-        NextOffset::NoFrame => true,
-        NextOffset::Next(_) => false,
-    }
+    frame_offset::next_offset(offset, clen).is_none()
 }
 
 // A header's second byte, which stands at place i of the piece.

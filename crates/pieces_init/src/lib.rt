@@ -11,7 +11,6 @@ ghost use Rattle.pieces_steps.specs.Kinds.{kind_of};
 ghost use Rattle.pieces_steps.specs.Later.{later};
 ghost use Rattle.pieces_init.specs.Gathering.{stored_in, finished_at, Reads, fed_init};
 
-use init_steps::Choice;
 use pieces_layout::{Fed, PieceSays};
 use pieces_steps::{set_numbers, waiting};
 
@@ -78,9 +77,8 @@ fn finish(
     ensures { taken_of result numbers.new gathered.now ≡ finished_at (kind_of two) (key_length tep) (reader_of numbers.old gathered.now) end last used }
 {
     let second = numbers[2];
-    let choice = pieces_cipher::choose(two, second, gathered);
-    match choice {
-        Choice::Nothing => {
+    match pieces_cipher::choose(two, second, gathered) {
+        None => {
             let position = last as u64;
             set_numbers(numbers, position, 10, 0, 6);
             Fed {
@@ -88,7 +86,7 @@ fn finish(
                 says: PieceSays::NoCommonCipher(position),
             }
         }
-        Choice::Took(cipher) => {
+        Some(cipher) => {
             let keys = init_steps::keys_of(tep);
             set_numbers(numbers, end as u64, 0, 0, 0);
             if two {
@@ -161,13 +159,12 @@ fn gather(
     ensures { taken_of result numbers.new gathered.new ≡ fed_on (reader_of numbers.old gathered.old) piece.now }
 {
     let mut n = position as usize;
-    let mut i = 0;
-    while i < piece.len() {
+    for (i, byte) in piece.iter().enumerate() {
         let nonce = nonce_at(two, gathered);
         if nonce <= n {
             return rest(two, tep, numbers, gathered, n, piece, i);
         }
-        gathered[n] = piece[i];
+        gathered[n] = *byte;
         if pieces_void::settled(two, tep, gathered, n) {
             let at = n as u64;
             set_numbers(numbers, at, 8, 0, 6);
@@ -177,10 +174,9 @@ fn gather(
             };
         }
         n += 1;
-        i += 1;
     }
     numbers[0] = n as u64;
-    waiting(i)
+    waiting(piece.len())
 }
 
 // A piece of the stream at B while Init1 is read; at another stage the reader is left as it is.

@@ -1,9 +1,7 @@
 // The starts of a reader of pieces: for Init1 at B, for Init2 at A, and for frames at once.
 #![tactic(auto)]
 
-ghost use Rattle.std.specs.Prelude.{◌≡◌, [], ◌+◌, ◌*◌, ◌≤◌, length};
-ghost use Rattle.wire.specs.Bytes.{pasted};
-ghost use Rattle.init_layout.specs.Layout.{cipher_bytes};
+ghost use Rattle.std.specs.Prelude.{◌≡◌, [], ◌≤◌};
 ghost use Rattle.pieces_layout.specs.Reader.{reader_of, bits_of};
 ghost use Rattle.pieces_layout.specs.Starts.{Start, start};
 ghost use Rattle.pieces_layout.specs.Answers.{begun_of};
@@ -34,20 +32,6 @@ fn bits_of(enabled: Enabled) -> u64
     let aes256 = bit(enabled.aes256, 2);
     let chacha20 = bit(enabled.chacha20, 4);
     aes128 + aes256 + chacha20
-}
-
-// Writes ciphers from the place `at` on, two bytes each.
-fn put_list(s: &mut [u8], at: usize, ciphers: &[u16])
-    requires { at + 2 * length ciphers.now ≤ length s.old }
-    ensures { s.new ≡ pasted s.old at (cipher_bytes ciphers.now) }
-{
-    let mut i = 0;
-    let mut next = at;
-    while i < ciphers.len() {
-        wire_numbers::write_u16(s, next, ciphers[i]);
-        i += 1;
-        next += 2;
-    }
 }
 
 // Starts at B, which reads Init1 and has these ciphers enabled.
@@ -84,7 +68,7 @@ pub fn start_init2(tep: u8, own: &[u16], numbers: &mut [u64], gathered: &mut [u8
     if gathered.len() < GATHERED {
         return PieceStart::NoRoom;
     }
-    put_list(gathered, OWN, own);
+    init1_writer::put_ciphers(gathered, OWN, own);
     let first = wire::wide(tep) as u64;
     let second = own.len() as u64;
     set_numbers(numbers, 0, first, second, 5);

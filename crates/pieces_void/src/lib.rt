@@ -8,16 +8,12 @@ ghost use Rattle.init_steps.specs.Answers.{standing_in};
 ghost use Rattle.pieces_layout.specs.Step.{is_unreadable, settles};
 ghost use Rattle.pieces_steps.specs.Kinds.{kind_of};
 
-use init_steps::Progress;
+use init_steps::NotWhole;
 
-fn is_unreadable(progress: Progress) -> bool
+fn is_unreadable(progress: Result<usize, NotWhole>) -> bool
     ensures { result ≡ is_unreadable (standing_in progress) }
 {
-    match progress {
-        Progress::Unreadable => true,
-        Progress::Incomplete => false,
-        Progress::Whole(_) => false,
-    }
+    matches!(progress, Err(NotWhole::Unreadable))
 }
 
 // Whether the one-shot reader refuses these bytes with 8.

@@ -6,11 +6,10 @@ use mathlib.Core.Bool.{Bool}
 use mathlib.Core.Option.{Option, none, some}
 use lib.Dec.{eqb}
 use lib.ListN.{length, replicate, length-append}
-use Rattle.wire.specs.Bytes.{pasted}
 use Rattle.eno.specs.Suboption.{Sent, name, teps}
 use Rattle.eno.specs.Judge.{Way, fresh, resumed, way_if, is_resumed, of_a, of_b, Sides, Negotiated, negotiated_by, agreed, encrypt}
 use Rattle.eno.specs.declared.SessionRecord.{SessionRecord}
-use Rattle.judgement.specs.Answers.{most_transcript, padded, without_transcript, Judges}
+use Rattle.judgement.specs.Answers.{encrypted_as, padded, without_transcript, Judges}
 use Rattle.judgement.specs.Laws.Transcript.{both_written}
 use Rattle.judgement.specs.Laws.Found.{sides_of}
 use Rattle.judgement.specs.declared.Reason.TheVariants as reason
@@ -18,25 +17,14 @@ use Rattle.judgement.specs.declared.Verdict.TheVariants as verdict
 use Rattle.judgement.specs.declared.Judgement.{Judgement}
 use Rattle.suboption_list.specs.List.{sent_of, items_in, list_of}
 use Rattle.suboption_list.specs.declared.SuboptionItem.{SuboptionItem}
-use Rattle.plain_validity.specs.Validity.{way_as, validity_in}
-use Rattle.plain_validity.specs.declared.Validity.{Validity}
+use Rattle.std.specs.Prelude as code
+use Rattle.eno.specs.declared.Way as declared
+use Rattle.eno.specs.Way.{way_as}
+use Rattle.plain_validity.specs.Validity.{validity_in}
 use Rattle.plain_striking.specs.Striking.{struck, last_of, taken}
-use Rattle.plain_judge.specs.Plain.{encrypted_as, concluded, negotiated_in}
+use Rattle.plain_judge.specs.Plain.{concluded, negotiated_in}
 
 module _ (a b : List ℕ) (role : ℕ) where
-  pub written : (byte : ℕ) (again : Bool) → length a ≤ 40 → length b ≤ 40 → (once twice : List ℕ) → once ≡ pasted (replicate most_transcript 0) 0 a
-      → twice ≡ pasted once (length a) b
-      → record { verdict = verdict.Encrypted role byte again; length = length a + length b; transcript = twice } ≡ encrypted_as a b role byte again
-  unfolding encrypted_as
-  written byte again la lb once twice q r = ap made (both_written a b la lb once twice q r)
-    where
-      made : List ℕ → Judgement
-      made t = record { verdict = verdict.Encrypted role byte again; length = length a + length b; transcript = t }
-
-  -- by the way in which the last TEP is valid
-  pub concluded_by : (x : Sent) (v w : Validity) → v ≡ w → (r : Judgement) → r ≡ concluded a b role (negotiated_by x (way_as w)) → r ≡ concluded a b role (negotiated_by x (way_as v))
-  concluded_by x v w e r h = h ∙ ap (λ z. concluded a b role (negotiated_by x (way_as z))) (sym e)
-
   pub concluded_none : (o : Option Negotiated) → o ≡ none → without_transcript (verdict.Plain reason.NoValidTep) ≡ concluded a b role o
   unfolding concluded
   concluded_none o e = rw e refl
@@ -62,7 +50,7 @@ module _ (own peer : List ℕ) (hand : Option SessionRecord) (role : ℕ) (mine 
   negotiated_none b eb e r w = w ∙ concluded_none (of_a own_is_b own peer) (of_b own_is_b own peer) role _ (ap (taken valid) (ap (λ z. last_of (left_of z)) (sym eb) ∙ e))
 
   pub negotiated_some : (a b : List ℕ) → a ≡ of_a own_is_b own peer → b ≡ of_b own_is_b own peer → (x : SuboptionItem) → last_of (left_of b) ≡ some (sent_of x)
-      → (v : Validity) → way_as v ≡ valid (name (sent_of x)) → (r : Judgement) → r ≡ concluded a b role (negotiated_by (sent_of x) (way_as v))
+      → (v : code.Option declared.Way) → way_as v ≡ valid (name (sent_of x)) → (r : Judgement) → r ≡ concluded a b role (negotiated_by (sent_of x) (way_as v))
       → r ≡ negotiated_in own peer hand role mine theirs
   unfolding negotiated_in taken
   negotiated_some a b ea eb x e v is r w =

@@ -4,7 +4,7 @@ use Rattle.std.proofs.Math.Option.{Option, none, some}
 use Rattle.eno.specs.Suboption.{Sent, teps}
 use Rattle.eno.specs.Judge.{is_resumed, of_a, of_b, Negotiated}
 use Rattle.eno.specs.declared.SessionRecord.{SessionRecord}
-use Rattle.judgement.specs.Answers.{padded, without_transcript}
+use Rattle.judgement.specs.Answers.{encrypted_as, without_transcript}
 use Rattle.judgement.specs.Laws.Found.{sides_of}
 use Rattle.judgement.specs.declared.Reason.TheVariants as reason
 use Rattle.judgement.specs.declared.Verdict.TheVariants as verdict
@@ -12,9 +12,6 @@ use Rattle.judgement.specs.declared.Judgement.{Judgement}
 use Rattle.suboption_list.specs.List.{items_in, list_of}
 use Rattle.plain_validity.specs.Validity.{validity_in}
 use Rattle.plain_striking.specs.Striking.{struck, last_of, taken}
-
-unfoldable pub encrypted_as : (a b : List ℕ) → (role byte : ℕ) → Bool → Judgement
-encrypted_as a b role byte again = record { verdict = verdict.Encrypted role byte again; length = length a + length b; transcript = padded (a ++ b) }
 
 unfoldable pub concluded : (a b : List ℕ) → ℕ → Option Negotiated → Judgement
 concluded a b role none = without_transcript (verdict.Plain reason.NoValidTep)

@@ -7,41 +7,29 @@ ghost use Rattle.eno.specs.Session.{in_hand};
 ghost use Rattle.eno.specs.Judge.{negotiated_by, judge};
 ghost use Rattle.judgement.specs.Answers.{Judges};
 ghost use Rattle.suboption_list.specs.List.{sent_of, items_in};
-ghost use Rattle.plain_validity.specs.Validity.{way_as};
-ghost use Rattle.plain_judge.specs.Plain.{encrypted_as, concluded, negotiated_in};
+ghost use Rattle.eno.specs.Way.{way_as};
+ghost use Rattle.plain_judge.specs.Plain.{concluded, negotiated_in};
 
-use eno::InHand;
+use eno::{InHand, Way};
 use judgement::{Judgement, Reason, Verdict};
-use plain_validity::Validity;
 use suboption_list::{SuboptionItem, SuboptionList};
 
-// The transcript is A's option followed by B's.
-fn encrypted<'a>(a: &'a [u8], b: &'a [u8], role: u8, tep: u8, resumed: bool) -> Judgement
-    requires { (length a.now ≤ 40) × (length b.now ≤ 40) }
-    ensures { result ≡ encrypted_as a.now b.now role tep resumed }
-{
-    let mut transcript = [0u8; 80];
-    let n = a.len();
-    wire::copy(&mut transcript, 0, a);
-    wire::copy(&mut transcript, n, b);
-    let length = n + b.len();
-    Judgement {
-        verdict: Verdict::Encrypted { role, tep, resumed },
-        length,
-        transcript,
-    }
-}
-
 // What is concluded from the last TEP that is left, and the way in which it is valid.
-fn conclude<'a>(a: &'a [u8], b: &'a [u8], role: u8, last: SuboptionItem, v: Validity) -> Judgement
+#[tactic(auto, unfolding(crate::specs::Plain::concluded))]
+fn conclude<'a>(
+    a: &'a [u8],
+    b: &'a [u8],
+    role: u8,
+    last: SuboptionItem,
+    way: Option<Way>,
+) -> Judgement
     requires { (length a.now ≤ 40) × (length b.now ≤ 40) }
-    ensures { result ≡ concluded a.now b.now role (negotiated_by (sent_of last) (way_as v)) }
+    ensures { result ≡ concluded a.now b.now role (negotiated_by (sent_of last) (way_as way)) }
 {
-    match v {
-        Validity::Invalid => judgement::without_transcript(Verdict::Plain(Reason::NoValidTep)),
-        Validity::Fresh => encrypted(a, b, role, last.byte, false),
-        Validity::Resumed => encrypted(a, b, role, last.byte, true),
-    }
+    let Some(way) = way else {
+        return judgement::without_transcript(Verdict::Plain(Reason::NoValidTep));
+    };
+    judgement::encrypted(a, b, role, last.byte, way == Way::Resumed)
 }
 
 // Of host B's suboptions strike the ones not valid, and take the last.
@@ -66,8 +54,8 @@ fn negotiate<'a>(
     }
     let last = suboption_last::last_item(left);
     let t = last.byte % 128;
-    let v = plain_validity::way_of(own, peer, hand, own_is_b, ours, others, t);
-    conclude(a, b, role, last, v)
+    let way = plain_validity::way_of(own, peer, hand, own_is_b, ours, others, t);
+    conclude(a, b, role, last, way)
 }
 
 // The judgement of this end's own option area and the other side's, both of a SYN.
@@ -81,18 +69,12 @@ pub fn judge_plainly<'a>(
 {
     let own = finder::find_option(own_area, true);
     let peer = finder::find_option(peer_area, true);
-    if own.len() == 0 {
-        return judge_missed::not_found(own_area, own, peer_area, peer);
-    }
-    if peer.len() == 0 {
+    if own.len() == 0 || peer.len() == 0 {
         return judge_missed::not_found(own_area, own, peer_area, peer);
     }
     let ours = suboption_lister::list(own);
     let others = suboption_lister::list(peer);
-    if ours.ill_formed {
-        return judgement::without_transcript(Verdict::Plain(Reason::IllFormed));
-    }
-    if others.ill_formed {
+    if ours.ill_formed || others.ill_formed {
         return judgement::without_transcript(Verdict::Plain(Reason::IllFormed));
     }
     let our_global = suboption_global::first_global(ours);

@@ -1,6 +1,8 @@
 -- Why no option is found, by what the finder's companion says.
 use Prim.Native.Nat.{ℕ}
 use mathlib.Core.Path.{◌≡◌, refl, sym, ◌∙◌, ap}
+use Rattle.std.specs.Prelude.{Some, None}
+use Rattle.std.specs.Prelude as code
 use mathlib.Core.List.{List, [], ◌∷◌}
 use mathlib.Core.Bool.{Bool}
 use Rattle.eno.specs.Area.{Finding, refused, unreadable, missing, found, finding, Status, says_found, says_none, says_unreadable, says_refused, status}
@@ -11,11 +13,11 @@ use Rattle.finder.specs.Answers.{status_of}
 use Rattle.finder.specs.declared.FindStatus.{FindStatus}
 use Rattle.plain_reason.specs.Reasons.{as_cause, absence_of}
 
-abbrev absence_by : Status → Cause
-absence_by says_found = numbered 0
-absence_by says_none = numbered 2
-absence_by (says_unreadable f) = record { reason = 1; place = f.place; kind = f.kind }
-absence_by (says_refused n) = numbered 0
+abbrev absence_by : Status → code.Option Cause
+absence_by says_found = None
+absence_by says_none = Some (numbered 2)
+absence_by (says_unreadable f) = Some (record { reason = 1; place = f.place; kind = f.kind })
+absence_by (says_refused n) = None
 
 absence_by_lem : (f : Finding) → absence_by (status f) ≡ as_cause (first_cause ((is_unreadable f, blame f) ∷ (is_missing f, numbered 2) ∷ []))
 unfolding status first_cause

@@ -1,5 +1,6 @@
 -- Laws of causes: 0 is the reason of none alone.
-use Rattle.std.specs.Prelude.{ℕ, ◌≡◌, refl, List, [], ◌∷◌, Bool, true, false, not}
+use Rattle.std.specs.Prelude.{ℕ, ◌≡◌, refl, List, [], ◌∷◌, Bool, true, false, not, Some, None}
+use Rattle.std.specs.Prelude as code
 use Rattle.std.proofs.Common.{sym, ◌∙◌, ap, arith}
 use Rattle.std.proofs.Math.Option.{Option, none, some}
 use Rattle.wire.specs.Bytes.{same_bytes}
@@ -51,17 +52,17 @@ second_has d area =
     (row_has (not (same_bytes (syn_option area) (peer_option d))) (numbered 7) [] (λ e. omega arith) none_has)))
 
 -- so the code's answer tells whether there is a cause, and which
-module _ (o : Option Cause) (c : Cause) (is : c ≡ as_cause o) where
-  pub no_cause : HasReason o → c.reason ≡ 0 → none ≡ o
-  no_cause has z = go o is has
+module _ (o : Option Cause) (a : code.Option Cause) (is : a ≡ as_cause o) where
+  pub no_cause : a ≡ None → none ≡ o
+  no_cause e = go o (sym is ∙ e)
     where
-      go : (p : Option Cause) → c ≡ as_cause p → HasReason p → none ≡ p
-      go none e h = refl
-      go (some x) e h = absurd (h x refl (ap (λ (y : Cause). y.reason) (sym e) ∙ z))
+      go : (p : Option Cause) → as_cause p ≡ None → none ≡ p
+      go none q = refl
+      go (some x) q = cc
 
-  pub is_cause : (c.reason ≡ 0 → ⊥) → some c ≡ o
-  is_cause h = go o is
+  pub is_cause : (c : Cause) → a ≡ Some c → some c ≡ o
+  is_cause c e = go o (sym is ∙ e)
     where
-      go : (p : Option Cause) → c ≡ as_cause p → some c ≡ p
-      go none e = absurd (h (ap (λ (y : Cause). y.reason) e))
-      go (some x) e = ap some e
+      go : (p : Option Cause) → as_cause p ≡ Some c → some c ≡ p
+      go none q = cc
+      go (some x) q = let r : x ≡ c = cc in ap some (sym r)

@@ -1,15 +1,16 @@
 -- Why a segment ends in plain TCP, as the code says it.
-use Rattle.std.specs.Prelude.{ℕ, List, [], ◌∷◌, Bool}
+use Rattle.std.specs.Prelude.{ℕ, List, [], ◌∷◌, Bool, Some, None}
+use Rattle.std.specs.Prelude as code
 use Rattle.std.proofs.Math.Option.{Option, none, some}
 use Rattle.eno.specs.Area.{finding}
 use Rattle.eno.specs.Cause.{numbered, blame, first_cause}
 use Rattle.eno.specs.Judge.{is_unreadable, is_missing}
 use Rattle.eno.specs.declared.Cause.{Cause}
 
--- why a segment ends in plain TCP; reason 0 where it does not
-abbrev pub as_cause : Option Cause → Cause
-as_cause none = numbered 0
-as_cause (some c) = c
+-- why a segment ends in plain TCP, if it does
+abbrev pub as_cause : Option Cause → code.Option Cause
+as_cause none = None
+as_cause (some c) = Some c
 
 -- 1 unreadable area, 2 no ENO option
 unfoldable pub absence_of : List ℕ → Bool → Option Cause

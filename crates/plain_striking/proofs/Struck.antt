@@ -14,8 +14,9 @@ use Rattle.suboption_list.specs.Left.{at}
 use Rattle.suboption_list.proofs.Left.{left, left_all, left_item, as_sent_lem}
 use Rattle.suboption_list.specs.declared.SuboptionItem.{SuboptionItem}
 use Rattle.suboption_list.specs.declared.SuboptionList.{SuboptionList}
-use Rattle.plain_validity.specs.Validity.{way_as}
-use Rattle.plain_validity.specs.declared.Validity.{Validity}
+use Rattle.std.specs.Prelude as code
+use Rattle.eno.specs.declared.Way as declared
+use Rattle.eno.specs.Way.{way_as}
 use Rattle.plain_striking.specs.Striking.{is_valid, struck}
 use Rattle.plain_striking.specs.Stays.{stays}
 
@@ -106,5 +107,6 @@ module _ (valid : ℕ → Option Way) where
           (ap₂ list_as k.count_is k.array_is ∙ ap list_with (sym (append_nil k.done) ∙ (ap (λ m. k.done ++ kept m) (sym e) ∙ k.rest)), omega (arith, k.behind, k.within))
 
 -- whether a TEP is valid, by the code's word for it
-pub valid_by : (v w : Validity) → v ≡ w → (o : Option Way) → way_as v ≡ o → is_valid (way_as w) ≡ is_valid o
-valid_by v w e o h = ap is_valid (ap way_as (sym e) ∙ h)
+pub valid_some : (v : code.Option declared.Way) → code.is_some v ≡ is_valid (way_as v)
+valid_some code.None = refl
+valid_some (code.Some w) = refl

@@ -11,7 +11,6 @@ ghost use Rattle.plain_striking.specs.Striking.{struck};
 ghost use Rattle.plain_striking.specs.Stays.{stays};
 
 use eno::InHand;
-use plain_validity::Validity;
 use suboption_list::{SuboptionItem, SuboptionList};
 
 // Whether a suboption stays: it is a TEP, and valid.
@@ -30,12 +29,8 @@ fn is_valid<'a>(
         return false;
     }
     let t = x.byte % 128;
-    let v = plain_validity::way_of(own, peer, hand, own_is_b, ours, others, t);
-    match v {
-        Validity::Invalid => false,
-        Validity::Fresh => true,
-        Validity::Resumed => true,
-    }
+    let way = plain_validity::way_of(own, peer, hand, own_is_b, ours, others, t);
+    way.is_some()
 }
 
 // A list without the suboptions that are not valid.

@@ -7,9 +7,9 @@ use mathlib.Core.Option.{Option, none, some}
 use native.Mathlib.Omega.{arith}
 use lib.ListN.{length}
 use Rattle.eno.specs.Suboption.{Sent}
-use Rattle.eno.specs.Tep.{is_known, tep_of}
-use Rattle.eno.specs.declared.Tep.{Tep}
+use Rattle.eno.specs.Tep.{is_known}
 use Rattle.eno.specs.Judge.{is_fresh, is_bad, is_resumption, half_of, Way, fresh, resumed, matches, named, once, of_b, Sides, way_of, way_of_both}
+use Rattle.judgement.proofs.Steps.{by_b}
 use Rattle.suboption_list.specs.List.{sent_of, first_item}
 use Rattle.suboption_list.specs.declared.SuboptionItem.{SuboptionItem}
 use Rattle.plain_validity.specs.Validity.{validity_in}
@@ -26,11 +26,6 @@ one_sent [] n e o x q = absurd (omega arith)
 one_sent (y ∷ []) n e o x q = ap (λ z. some (sent_of z)) (sym q)
 one_sent (y ∷ z ∷ l) n e o x q = absurd (omega arith)
 
-b_sent : (b : Bool) (x y : SuboptionItem) → sent_of (of_b b x y) ≡ of_b b (sent_of x) (sent_of y)
-unfolding of_b
-b_sent true x y = refl
-b_sent false x y = refl
-
 module _ (s : Sides) (l m : List Sent) (t : ℕ) where
   abbrev way_sought : Option Way
   way_sought = validity_in s l m t
@@ -40,19 +35,15 @@ module _ (s : Sides) (l m : List Sent) (t : ℕ) where
   none_theirs none = refl
   none_theirs (some x) = refl
 
-  module _ (tep : Tep) (is : tep ≡ tep_of t) where
-    known_is : is_known t ≡ tep.known
-    unfolding tep_of
-    known_is = sym (ap (λ (x : Tep). x.known) is)
-
-    pub valid_unknown : tep.known ≡ false → none ≡ way_sought
+  module _ (known_t : Bool) (is : known_t ≡ is_known t) where
+    pub valid_unknown : known_t ≡ false → none ≡ way_sought
     unfolding validity_in
-    valid_unknown e = simp (known_is, e)
+    valid_unknown e = simp (← is, e)
 
-    module _ (known : tep.known ≡ true) where
+    module _ (known : known_t ≡ true) where
       when_known : way_sought ≡ way_of_both s t (once (named t l)) (once (named t m))
       unfolding validity_in
-      when_known = simp (known_is, known)
+      when_known = simp (← is, known)
 
       module _ (n : ℕ) (en : n ≡ length (named t l)) where
         pub valid_own_times : (n ≡ 1 → ⊥) → none ≡ way_sought
@@ -80,7 +71,7 @@ module _ (s : Sides) (l m : List Sent) (t : ℕ) where
 
                 module _ (good-too : by ≡ false) (z : SuboptionItem) (ez : z ≡ of_b s.own_is_b x y) (f : Bool) (is_f : f ≡ is_fresh (sent_of z)) where
                   fresh_b : is_fresh (of_b s.own_is_b (sent_of x) (sent_of y)) ≡ f
-                  fresh_b = sym (is_f ∙ ap is_fresh (ap sent_of ez ∙ b_sent s.own_is_b x y))
+                  fresh_b = sym (is_f ∙ ap is_fresh (ap sent_of ez ∙ by_b sent_of s.own_is_b x y))
 
                   pub valid_fresh : f ≡ true → some fresh ≡ way_sought
                   unfolding way_of

@@ -14,6 +14,7 @@ use Rattle.eno.specs.Session.{sent_half, expected_half, in_hand}
 use Rattle.eno.specs.Judge.{half_of, matches}
 use Rattle.eno.specs.declared.SessionRecord.{SessionRecord}
 use Rattle.eno.specs.declared.InHand.{InHand}
+use Rattle.eno.proofs.Halves.{hand_none, hand_some}
 use Rattle.plain_validity.specs.Validity.{sent_from}
 
 pub from_first : (role : ℕ) → role ≡ 0 → (0 ≡ sent_from role) × (0 ≤ 9)
@@ -42,15 +43,6 @@ expected_half_lem r = go (eqb r.role 0)
     go false = refl
 
 -- the record in hand
-module _ (h : InHand) where
-  hand_none : h.held ≡ false → in_hand h ≡ none
-  unfolding in_hand
-  hand_none e = simp e
-
-  hand_some : h.held ≡ true → in_hand h ≡ some h.session
-  unfolding in_hand
-  hand_some e = simp e
-
 module _ (own peer : List ℕ) (h : InHand) (t : ℕ) (x y : Sent) where
   pub match_none : h.held ≡ false → false ≡ matches (in_hand h) t (half_of own x) (half_of peer y)
   unfolding matches
@@ -81,13 +73,3 @@ module _ (own peer : List ℕ) (h : InHand) (t : ℕ) (x y : Sent) where
           → c ≡ matches (in_hand h) t (half_of own x) (half_of peer y)
       unfolding matches
       match_if e j ej c ec = rw (hand_some h held) (simp (eq-eqb _ _ same, ← mine, e, ← theirs j ej c ec))
-
--- a half of an identifier
-pub half_at : (o : List ℕ) (at : ℕ) (identifier : List ℕ) (from e : ℕ) (m : List ℕ) → from ≤ 9 → length identifier ≡ 18 → e ≡ from + 9
-    → m ≡ take (e - from) (drop from identifier) → stands_at o at m ≡ same_bytes (part at 9 o) (part from 9 identifier)
-unfolding stands_at part
-half_at o at identifier from e m h w q p =
-    let n : e - from ≡ 9 = omega arith in
-    let p' : m ≡ take 9 (drop from identifier) = p ∙ ap (λ k. take k (drop from identifier)) n in
-    let l : length m ≡ 9 = ap length p' ∙ simp (length-take, length-drop) (omega arith) in
-    ap (λ k. same_bytes (take k (drop at o)) m) l ∙ ap (same_bytes (take 9 (drop at o))) p'

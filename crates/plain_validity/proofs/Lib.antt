@@ -1,5 +1,4 @@
 -- Laws that the proofs share.
-pub mod Sides
 pub mod Halves
 pub mod Cases
 pub mod ValidityLaws

@@ -1,5 +1,5 @@
 -- An effect carried out: what the code makes of marks, rows and the door is what the definition says.
-use Rattle.std.specs.Prelude.{◌≡◌, Bool, cond, ◌&&◌, List, [], ◌∷◌, ◌++◌, ℕ, suc, ◌+◌, ◌-◌, ◌≤◌, ◌<◌, length, get_or, set}
+use Rattle.std.specs.Prelude.{◌≡◌, Bool, cond, ◌&&◌, Option, Some, None, List, [], ◌∷◌, ◌++◌, ℕ, suc, ◌+◌, ◌-◌, ◌≤◌, ◌<◌, length, get_or, set}
 use Rattle.std.proofs.Math.Path.{refl, sym, ap}
 use Rattle.std.proofs.Common.{ap₂, ◌∙◌, get_or-take}
 use Rattle.std.proofs.Math.Bool.{true, false}
@@ -26,9 +26,9 @@ use Rattle.unit.specs.declared.LinkUnit.{LinkUnit}
 use Rattle.unit_bytes.specs.Whole.{unit_of}
 use Rattle.pool.specs.Carried.{fits, enact_fit, takes_row}
 use Rattle.pool.specs.Placed.{position_of}
-use Rattle.row_list.specs.Listed.{listed, unfit, longer, shorter, listing_of, session_after}
+use Rattle.row_list.specs.Listed.{listed, unfit, longer, shorter, listing_of, listed_row, listed_used, session_after}
 use Rattle.row_list.specs.declared.Listing.{Listing}
-use Rattle.pool.specs.Carrying.{row_stored, stored}
+use Rattle.pool.specs.Carrying.{row_stored, door_stored, stored}
 
 module _ (u : LinkUnit) (d : ℕ) (l : Door) where
   -- no door of the unit
@@ -88,9 +88,9 @@ module _ (u : LinkUnit) (words_size : length u.marks ≤ words_n) (rows_size : l
       sym (ap₂ (λ (marks : List ℕ) (rows : List SessionRecord). unit_of marks rows doors) (mark_past u.marks row mark words_size h) (set_out u.rows row s (omega arith)))
 
   module _ (d : ℕ) (l : Door) (ours : d < doors_n) (size : length (position_at u d).rows ≡ each_n) where
-    unfit_stored : (numbers : List ℕ) (s : SessionRecord) → stored u d l (unfit numbers) s ≡ u
+    unfit_stored : (s : SessionRecord) → stored u d l unfit s ≡ u
     unfolding mark_for
-    unfit_stored numbers s = sym (no_row_stored rows_n 0 s u.doors (omega arith))
+    unfit_stored s = sym (no_row_stored rows_n 0 s u.doors (omega arith))
 
     -- the effect is carried out, if the row for a record that is added is the lowest free one
     pub carried : (c : Change) (r : SessionRecord) (free : ℕ) → (takes_row c ≡ true → free ≡ lowest_free u)
@@ -98,41 +98,41 @@ module _ (u : LinkUnit) (words_size : length u.marks ≤ words_n) (rows_size : l
     unfolding listing_of session_after longer shorter takes_row mark_for
     carried change.Keep r free h = sym (no_row_stored rows_n 0 r _ (omega arith)) ∙ keeps u d l ours
     carried change.Add r free h =
-        ap (λ (i : ℕ). stored u d l (cond (ltb (count_of (position_at u d)) each_n && ltb i rows_n) (listed i true (suc (count_of (position_at u d))) (set (position_at u d).rows (count_of (position_at u d)) i)) (unfit (position_at u d).rows)) r) (h refl)
+        ap (λ (i : ℕ). stored u d l (cond (ltb (count_of (position_at u d)) each_n && ltb i rows_n) (listed i true (suc (count_of (position_at u d))) (set (position_at u d).rows (count_of (position_at u d)) i)) unfit) r) (h refl)
         ∙ go (ltb (count_of (position_at u d)) each_n) refl (ltb (lowest_free u) rows_n) refl
       where
         go : (b : Bool) → ltb (count_of (position_at u d)) each_n ≡ b → (f : Bool) → ltb (lowest_free u) rows_n ≡ f
-            → stored u d l (cond (b && f) (listed (lowest_free u) true (suc (count_of (position_at u d))) (set (position_at u d).rows (count_of (position_at u d)) (lowest_free u))) (unfit (position_at u d).rows)) r
+            → stored u d l (cond (b && f) (listed (lowest_free u) true (suc (count_of (position_at u d))) (set (position_at u d).rows (count_of (position_at u d)) (lowest_free u))) unfit) r
             ≡ enact_fit u d l (add r)
-        go false e f g = unfit_stored (position_at u d).rows r ∙ full u d l ours size r (ltb-false _ _ e)
+        go false e f g = unfit_stored r ∙ full u d l ours size r (ltb-false _ _ e)
         go true e false g =
             let past : rows_n ≤ lowest_free u = ltb-false _ _ g in
-            unfit_stored (position_at u d).rows r ∙ no_row u d l ours size r (ltb-true _ _ e) past
+            unfit_stored r ∙ no_row u d l ours size r (ltb-true _ _ e) past
         go true e true g =
             let within : lowest_free u < rows_n = ltb-true _ _ g in
             adds u d l ours size r (ltb-true _ _ e) (lowest_free u) (count_of (position_at u d)) (suc (count_of (position_at u d))) refl within refl refl
     carried (change.Remove j) r free h = go (ltb j (count_of (position_at u d))) refl
       where
         go : (b : Bool) → ltb j (count_of (position_at u d)) ≡ b
-            → stored u d l (cond b (listed (get_or (position_at u d).rows j 0) false (count_of (position_at u d) - 1) (cut j (position_at u d).rows ++ 0 ∷ [])) (unfit (position_at u d).rows)) no_session
+            → stored u d l (cond b (listed (get_or (position_at u d).rows j 0) false (count_of (position_at u d) - 1) (cut j (position_at u d).rows ++ 0 ∷ [])) unfit) no_session
             ≡ enact_fit u d l (remove j)
-        go false e = unfit_stored (position_at u d).rows no_session ∙ not_held_lem u d l ours size j (ltb-false _ _ e)
+        go false e = unfit_stored no_session ∙ not_held_lem u d l ours size j (ltb-false _ _ e)
         go true e = removes u d l ours size j (ltb-true _ _ e) (get_or (position_at u d).rows j 0) (count_of (position_at u d) - 1) refl refl
 
     -- as the code goes: the row first, then the position
     module _ (c : Change) (r : SessionRecord) (free : ℕ) (v : LinkUnit) (lowest : takes_row c ≡ true → free ≡ lowest_free u)
         (row : v ≡ row_stored u (listing_of (position_at u d) free c) (session_after c r)) where
-      abbrev n : Listing
+      abbrev n : Option Listing
       n = listing_of (position_at u d) free c
 
       abbrev s : SessionRecord
       s = session_after c r
 
-      abbrev moved : Bool → LinkUnit
-      moved b = unit_of (with_mark u.marks n.row (mark_for n.used)) (set u.rows n.row s) (cond b (set u.doors d (position_of l n.count n.numbers)) u.doors)
+      abbrev moved : Option Listing → LinkUnit
+      moved m = unit_of (with_mark u.marks (listed_row n) (mark_for (listed_used n))) (set u.rows (listed_row n) s) (door_stored u.doors d l m)
 
-      pub fit_carried : n.fits ≡ true → unit_of v.marks v.rows (set v.doors d (position_of l n.count n.numbers)) ≡ enact_fit u d l (effect_of c r)
-      fit_carried e = ap (λ (w : LinkUnit). unit_of w.marks w.rows (set w.doors d (position_of l n.count n.numbers))) row ∙ (ap moved (sym e) ∙ carried c r free lowest)
+      pub fit_carried : (m : Listing) → n ≡ Some m → unit_of v.marks v.rows (set v.doors d (position_of l m.count m.numbers)) ≡ enact_fit u d l (effect_of c r)
+      fit_carried m e = ap (λ (w : LinkUnit). unit_of w.marks w.rows (set w.doors d (position_of l m.count m.numbers))) row ∙ (ap moved (sym e) ∙ carried c r free lowest)
 
-      pub unfit_carried : n.fits ≡ false → v ≡ enact_fit u d l (effect_of c r)
+      pub unfit_carried : n ≡ None → v ≡ enact_fit u d l (effect_of c r)
       unfit_carried e = row ∙ (ap moved (sym e) ∙ carried c r free lowest)

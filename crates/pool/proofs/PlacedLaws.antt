@@ -1,9 +1,8 @@
 -- Laws of a door or a row in its place: how the code's ways lead to it, and that no other door is touched. Assumes nothing.
-use Rattle.std.specs.Prelude.{ℕ, ◌≤◌, ◌<◌, ◌≡◌, refl, Bool, true, false, List, [], ltb, length, get_or, set, replicate}
+use Rattle.std.specs.Prelude.{Option, Some, None, ℕ, ◌≤◌, ◌<◌, ◌≡◌, refl, Bool, true, false, List, [], ltb, length, get_or, set, replicate}
 use Rattle.std.proofs.Common.{sym, ◌∙◌, subst, arith, get_or-set_same, get_or-set_other, lt-ltb, le-ltb, ltb-true, ltb-false}
 use Rattle.std.proofs.Math.Path.{ap}
 use Rattle.std.proofs.Math.Bool.{cond}
-use Rattle.std.proofs.lemmas.Bool.{false≢true}
 use Rattle.std.proofs.Math.Seq.{set_out}
 use Rattle.eno.specs.declared.SessionRecord.{SessionRecord}
 use Rattle.door.specs.Numbers.{each_n}
@@ -17,9 +16,12 @@ use Rattle.unit.specs.declared.Position.{Position}
 use Rattle.unit_bytes.specs.Layout.{door_size}
 use Rattle.unit_bytes.specs.Content.{record_in, row_of, position_in, bytes_of, unit_in}
 use Rattle.unit_bytes.specs.Tells.{FlagsOver}
+use Rattle.unit_bytes.specs.Laws.{SizedRecord}
+use Rattle.unit_bytes.proofs.Laws.{record_read}
 use Rattle.unit_bytes.proofs.Tells.{place_stays, flags_same, flags_written}
 use Rattle.unit_bytes.proofs.Whole.{zero_position, door_in_lem, door_put}
-use Rattle.row_list.specs.Listed.{listing_of, session_after}
+use Rattle.row_list.specs.Listed.{listing_of, marked_row, marked_used, listed_row, listed_used, session_after}
+use Rattle.row_list.specs.declared.RowMark.{RowMark}
 use Rattle.row_list.specs.declared.Listing.{Listing}
 use Rattle.pool.specs.Carried.{fits, enact_fit}
 use Rattle.pool.specs.Placed.{position_from, Put, DoorsKept, PutRow, position_of, Enacts}
@@ -68,15 +70,15 @@ put_kept doors after d x p = subst (λ (l : List (List ℕ)). DoorsKept d doors 
 -- an effect carried out touches no other door
 pub enacts_kept : (marks marks' : List ℕ) (rows rows' doors doors' : List (List ℕ)) (d : ℕ) (x : Position) (free : ℕ) (l : Door) (c : Change) (r : SessionRecord)
     → Enacts marks marks' rows rows' doors doors' d x free l c r → DoorsKept d doors doors'
-enacts_kept marks marks' rows rows' doors doors' d x free l c r h = at (ltb d doors_n) refl (listing_of x free c).fits refl
+enacts_kept marks marks' rows rows' doors doors' d x free l c r h = at (ltb d doors_n) refl (listing_of x free c) refl
   where
     unmoved : doors' ≡ doors → DoorsKept d doors doors'
     unmoved e = subst (λ (m : List (List ℕ)). DoorsKept d doors m) (sym e) (doors_same d doors)
 
-    at : (b : Bool) → ltb d doors_n ≡ b → (f : Bool) → (listing_of x free c).fits ≡ f → DoorsKept d doors doors'
-    at true e true f = put_kept doors doors' d _ (h.fit (ltb-true _ _ e) f)
-    at true e false f = unmoved (h.unfit (ltb-true _ _ e) f)
-    at false e g f = unmoved (h.past (ltb-false _ _ e)).doors_same
+    at : (b : Bool) → ltb d doors_n ≡ b → (m : Option Listing) → listing_of x free c ≡ m → DoorsKept d doors doors'
+    at true e (Some m) f = put_kept doors doors' d _ (h.fit (ltb-true _ _ e) m f)
+    at true e None f = unmoved (h.unfit (ltb-true _ _ e) f)
+    at false e m f = unmoved (h.past (ltb-false _ _ e)).doors_same
 
 module _ (marks : List ℕ) (rows doors : List (List ℕ)) (d : ℕ) (ours : d < doors_n) where
   pub position_from_lem : position_from doors d ≡ position_at (unit_in marks rows doors) d
@@ -98,6 +100,20 @@ pub row_in_place : (marks after : List ℕ) (rows : List (List ℕ)) (i : ℕ) (
     → PutRow marks after rows (set rows i b) i used s
 row_in_place marks after rows i used b s h m q e = record { marked = m ∙ rw (lt-ltb i rows_n h) refl; placed = rw (lt-ltb i rows_n h, q) refl; says = ap record_in (sym q) ∙ e }
 
+some_same : {X : Type 0} {x y : X} → Some x ≡ Some y → x ≡ y
+some_same e = grind (arith, e)
+
+some_none : {X : Type 0} {x : X} → Some x ≡ None → ⊥
+some_none e = grind (arith, e)
+
+-- the row that a list names, put; and none
+pub row_marked : (marks marks' : List ℕ) (rows rows' : List (List ℕ)) (m : Option RowMark) (k : RowMark) (s : SessionRecord) → m ≡ Some k → PutRow marks marks' rows rows' k.row k.used s
+    → PutRow marks marks' rows rows' (marked_row m) (marked_used m) s
+row_marked marks marks' rows rows' m k s e p = subst (λ (o : Option RowMark). PutRow marks marks' rows rows' (marked_row o) (marked_used o) s) (sym e) p
+
+pub row_unmarked : (marks : List ℕ) (rows : List (List ℕ)) (m : Option RowMark) (s : SessionRecord) → m ≡ None → SizedRecord s → PutRow marks marks rows rows (marked_row m) (marked_used m) s
+row_unmarked marks rows m s e z = subst (λ (o : Option RowMark). PutRow marks marks rows rows (marked_row o) (marked_used o) s) (sym e) (row_past marks rows rows_n false (row_of s) s (omega arith) refl (record_read s z))
+
 -- an effect as the code carries it out: the list after the change, the row's record, then both stored
 pub enacts_past : (marks : List ℕ) (rows doors : List (List ℕ)) (d : ℕ) (x : Position) (free : ℕ) (l : Door) (c : Change) (r : SessionRecord) → doors_n ≤ d → Enacts marks marks rows rows doors doors d x free l c r
 enacts_past marks rows doors d x free l c r h =
@@ -109,29 +125,29 @@ enacts_past marks rows doors d x free l c r h =
       size = λ k. absurd (omega arith);
     }
 
-module _ (marks marks' : List ℕ) (rows rows' doors doors' : List (List ℕ)) (d : ℕ) (x : Position) (free : ℕ) (l : Door) (c : Change) (r s : SessionRecord) (n : Listing) (ours : d < doors_n)
-    (list : n ≡ listing_of x free c) (kept : s ≡ session_after c r) (sized : length x.rows ≡ each_n) (stored : PutRow marks marks' rows rows' n.row n.used s) where
-  row_there : PutRow marks marks' rows rows' (listing_of x free c).row (listing_of x free c).used (session_after c r)
+module _ (marks marks' : List ℕ) (rows rows' doors doors' : List (List ℕ)) (d : ℕ) (x : Position) (free : ℕ) (l : Door) (c : Change) (r s : SessionRecord) (n : Option Listing) (ours : d < doors_n)
+    (list : n ≡ listing_of x free c) (kept : s ≡ session_after c r) (sized : length x.rows ≡ each_n) (stored : PutRow marks marks' rows rows' (listed_row n) (listed_used n) s) where
+  row_there : PutRow marks marks' rows rows' (listed_row (listing_of x free c)) (listed_used (listing_of x free c)) (session_after c r)
   row_there =
-      subst (λ (m : Listing). PutRow marks marks' rows rows' m.row m.used (session_after c r)) list
-      (subst (λ (t : SessionRecord). PutRow marks marks' rows rows' n.row n.used t) kept stored)
+      subst (λ (m : Option Listing). PutRow marks marks' rows rows' (listed_row m) (listed_used m) (session_after c r)) list
+      (subst (λ (t : SessionRecord). PutRow marks marks' rows rows' (listed_row n) (listed_used n) t) kept stored)
 
-  pub enacts_fit : n.fits ≡ true → Put doors doors' d (position_of l n.count n.numbers) → Enacts marks marks' rows rows' doors doors' d x free l c r
-  enacts_fit e put =
+  pub enacts_fit : (m : Listing) → n ≡ Some m → Put doors doors' d (position_of l m.count m.numbers) → Enacts marks marks' rows rows' doors doors' d x free l c r
+  enacts_fit m e put =
       record {
         past = λ k. absurd (omega arith);
         row = λ k. row_there;
-        fit = λ k f. subst (λ (m : Listing). Put doors doors' d (position_of l m.count m.numbers)) list put;
-        unfit = λ k f. absurd (false≢true (sym f ∙ (ap (λ (m : Listing). m.fits) (sym list) ∙ e)));
+        fit = λ k o f. subst (λ (o : Listing). Put doors doors' d (position_of l o.count o.numbers)) (some_same (sym e ∙ (list ∙ f))) put;
+        unfit = λ k f. absurd (some_none (sym e ∙ (list ∙ f)));
         size = λ k. sized;
       }
 
-  pub enacts_unfit : n.fits ≡ false → doors' ≡ doors → Enacts marks marks' rows rows' doors doors' d x free l c r
+  pub enacts_unfit : n ≡ None → doors' ≡ doors → Enacts marks marks' rows rows' doors doors' d x free l c r
   enacts_unfit e same =
       record {
         past = λ k. absurd (omega arith);
         row = λ k. row_there;
-        fit = λ k f. absurd (false≢true (sym e ∙ (ap (λ (m : Listing). m.fits) list ∙ f)));
+        fit = λ k m f. absurd (some_none (sym f ∙ (sym list ∙ e)));
         unfit = λ k f. same;
         size = λ k. sized;
       }

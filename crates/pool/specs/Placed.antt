@@ -1,5 +1,5 @@
 -- What the pool's functions leave, in every byte, for any door number, any row number and any content: a door or a row put in its place, what a door sees, and a call's effect carried out.
-use Rattle.std.specs.Prelude.{ℕ, ◌-◌, ◌≤◌, ◌<◌, ◌≡◌, Bool, true, false, cond, List, [], ◌++◌, ltb, length, get_or, take, set, replicate}
+use Rattle.std.specs.Prelude.{ℕ, ◌-◌, ◌≤◌, ◌<◌, ◌≡◌, Bool, false, cond, List, [], ◌++◌, Some, None, ltb, length, get_or, take, set, replicate}
 use Rattle.eno.specs.declared.SessionRecord.{SessionRecord}
 use Rattle.door.specs.Numbers.{each_n}
 use Rattle.door.specs.Door.{Seen, no_session}
@@ -13,7 +13,7 @@ use Rattle.unit.specs.declared.Position.{Position}
 use Rattle.unit_bytes.specs.Layout.{row_size, door_size}
 use Rattle.unit_bytes.specs.Content.{record_in, row_of, position_in, bytes_of, rows_in, unit_in}
 use Rattle.unit_bytes.specs.Tells.{FlagsOver, Same}
-use Rattle.row_list.specs.Listed.{listing_of, session_after}
+use Rattle.row_list.specs.Listed.{listing_of, listed_row, listed_used, session_after}
 use Rattle.row_list.specs.declared.Listing.{Listing}
 
 -- every mark and every byte is zero, which is the empty unit
@@ -64,7 +64,7 @@ position_of l n numbers = record { door = l; count = n; rows = numbers }
 -- not fit, and one of no door, changes nothing
 pub record Enacts (marks marks' : List ℕ) (rows rows' doors doors' : List (List ℕ)) (d : ℕ) (x : Position) (free : ℕ) (l : Door) (c : Change) (r : SessionRecord) : Type 0 where
   pub past : doors_n ≤ d → Same marks' marks rows' rows doors' doors
-  pub row : d < doors_n → PutRow marks marks' rows rows' (listing_of x free c).row (listing_of x free c).used (session_after c r)
-  pub fit : d < doors_n → (listing_of x free c).fits ≡ true → Put doors doors' d (position_of l (listing_of x free c).count (listing_of x free c).numbers)
-  pub unfit : d < doors_n → (listing_of x free c).fits ≡ false → doors' ≡ doors
+  pub row : d < doors_n → PutRow marks marks' rows rows' (listed_row (listing_of x free c)) (listed_used (listing_of x free c)) (session_after c r)
+  pub fit : d < doors_n → (n : Listing) → listing_of x free c ≡ Some n → Put doors doors' d (position_of l n.count n.numbers)
+  pub unfit : d < doors_n → listing_of x free c ≡ None → doors' ≡ doors
   pub size : d < doors_n → length x.rows ≡ each_n

@@ -7,6 +7,7 @@ use unit::{DOORS, ROWS, WORDS};
 use unit_bytes::{PLACE, ROW};
 
 // The empty unit: no row marked, rows and doors of zeros.
+// The three arrays stand side by side, here and at every call of the unit: C lends three pointers, and the clauses name each array's bytes, so a struct of borrows would be made at each call and taken apart in it.
 pub fn erase(
     marks: &mut [u32; WORDS],
     rows: &mut [[u8; ROW]; ROWS],
@@ -14,9 +15,7 @@ pub fn erase(
 )
     ensures { Erased marks.new rows.new doors.new }
 {
-    *marks = [0u32; WORDS];
-    let row = [0u8; ROW];
-    *rows = [row; ROWS];
-    let door = [0u8; PLACE];
-    *doors = [door; DOORS];
+    *marks = [0; WORDS];
+    *rows = [[0; ROW]; ROWS];
+    *doors = [[0; PLACE]; DOORS];
 }

@@ -9,6 +9,7 @@ use unit::{DOORS, Position, ROWS, WORDS};
 use unit_bytes::{PLACE, ROW};
 
 // A call's effect carried out; `added` is the record of a change that adds one.
+// The three arrays stand side by side for the reason at `pool::erase`, and `free` is a number for the reason at `marks::lowest_unmarked`.
 pub fn enacted(
     marks: &mut [u32; WORDS],
     rows: &mut [[u8; ROW]; ROWS],
@@ -22,13 +23,11 @@ pub fn enacted(
 )
     ensures { Enacts marks.old marks.new rows.old rows.new doors.old doors.new d position free after change added }
 {
-    if DOORS <= d {
+    if d >= DOORS {
         return;
     }
-    let next = row_list_after::list_after(position, change, free);
     let session = row_session::session_after(change, added);
-    pool_rows::put_row(marks, rows, next.row, next.used, session);
-    if next.fits {
+    if let Some(next) = row_list_after::list_after(position, change, free) {
         let numbers = next.numbers;
         let to = Position {
             door: after,
@@ -36,5 +35,8 @@ pub fn enacted(
             rows: numbers,
         };
         pool_doors::put_door(doors, d, to);
+        if let Some(mark) = next.mark {
+            pool_rows::put_row(marks, rows, mark.row, mark.used, session);
+        }
     }
 }

@@ -16,11 +16,8 @@ pub fn view_of(rows: &[[u8; ROW]; ROWS], position: Position) -> View
     let zeros = door_values::no_session();
     let mut held = [zeros; EACH];
     let n = row_list::count_of(position);
-    let mut i = 0;
-    while i < n {
-        let session = pool_rows::record_at(rows, position.rows[i]);
-        held[i] = session;
-        i += 1;
+    for i in 0..n {
+        held[i] = pool_rows::record_at(rows, position.rows[i]);
     }
     View {
         door: position.door,

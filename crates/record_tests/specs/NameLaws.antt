@@ -1,6 +1,8 @@
 -- Laws of what names a session and of a record's parts. Assumes nothing.
-use Rattle.std.specs.Prelude.{ℕ, ◌≤◌, ◌<◌, ◌≡◌, refl, List, Bool, true, false, ◌&&◌, length}
-use Rattle.std.proofs.Common.{sym, ap}
+use Rattle.std.specs.Prelude.{is_some, Option, ℕ, ◌≤◌, ◌<◌, ◌≡◌, refl, List, Bool, true, false, ◌&&◌, length}
+use Rattle.std.proofs.Common.{sym, ◌∙◌, ap, arith}
+use Rattle.std.proofs.Math.Decide.{dec_lt}
+use Rattle.eno.proofs.Laws.Tep.{known_yes, known_below, known_above, tep_p256, tep_p521, tep_25519, tep_448, tep_unknown}
 use Rattle.std.proofs.lemmas.Bool.{false≢true}
 use borrow.Author.Tests.{le-leb, lt-leb, eqb-true, eq-eqb, ne_eqb}
 use Rattle.std.proofs.Math.Dec.{leb, eqb}
@@ -34,9 +36,26 @@ module _ (t : ℕ) (identifier : List ℕ) (hand : InHand) where
   unfolding in_hand
   in_hand_lem e = simp e
 
-pub of_known : (t : ℕ) (r : Tep) → r ≡ tep_of t → r.known ≡ is_known t
-unfolding tep_of
-of_known t r e = ap (λ (x : Tep). x.known) e
+known_of : (t : ℕ) → is_some (tep_of t) ≡ is_known t
+known_of t = elim (dec_lt t 0x21) [
+  | yes h ↦ ap is_some (sym (tep_unknown t (omega arith) (omega arith) (omega arith) (omega arith))) ∙ known_below t h
+  | no h ↦ elim (dec_lt 0x24 t) [
+    | yes k ↦ ap is_some (sym (tep_unknown t (omega arith) (omega arith) (omega arith) (omega arith))) ∙ known_above t k
+    | no k ↦ let yes-known : true ≡ is_known t = known_yes t (omega arith) (omega arith) in elim (dec_lt 0x21 t) [
+      | no a ↦ ap is_some (sym (tep_p256 t (omega arith))) ∙ yes-known
+      | yes a ↦ elim (dec_lt 0x22 t) [
+        | no b ↦ ap is_some (sym (tep_p521 t (omega arith))) ∙ yes-known
+        | yes b ↦ elim (dec_lt 0x23 t) [
+          | no e ↦ ap is_some (sym (tep_25519 t (omega arith))) ∙ yes-known
+          | yes e ↦ ap is_some (sym (tep_448 t (omega arith))) ∙ yes-known
+        ]
+      ]
+    ]
+  ]
+]
+
+pub of_known : (t : ℕ) (r : Option Tep) → r ≡ tep_of t → is_some r ≡ is_known t
+of_known t r e = ap is_some e ∙ known_of t
 
 -- a TEP and an identifier
 module _ (t : ℕ) (identifier : List ℕ) where

@@ -10,47 +10,33 @@ ghost use Rattle.record_tests.specs.Steps.{is_named};
 use eno::{InHand, SessionRecord, Tep};
 
 // Whether a record has this TEP and this identifier.
+#[tactic(auto, unfolding(door::specs::Record::is_session))]
 pub fn is_session(session: SessionRecord, tep: u8, identifier: &[u8]) -> bool
     ensures { result ≡ is_session tep identifier.now session }
 {
-    if session.tep != tep {
-        return false;
-    }
-    let other = session.identifier;
-    wire::same(&other, identifier)
+    session.tep == tep && wire::same(&session.identifier, identifier)
 }
 
 // Whether the record in hand, if there is one, has this TEP and this identifier.
+#[tactic(auto, unfolding(eno::specs::Session::in_hand))]
 pub fn is_in_hand(hand: InHand, tep: u8, identifier: &[u8]) -> bool
     ensures { result ≡ is_in_hand tep identifier.now (in_hand hand) }
 {
-    if !hand.held {
-        return false;
-    }
-    let session = hand.session;
-    is_session(session, tep, identifier)
+    hand.held && is_session(hand.session, tep, identifier)
 }
 
 // Whether a session may have this TEP and this identifier.
+#[tactic(auto, unfolding(crate::specs::Steps::is_named))]
 pub fn is_named(tep: u8, identifier: &[u8]) -> bool
     ensures { result ≡ is_named tep identifier.now }
 {
-    let named = Tep::of(tep);
-    if !named.known {
-        return false;
-    }
-    identifier.len() == 18
+    Tep::of(tep).is_some() && identifier.len() == 18
 }
 
 // Whether these are the parts of a record.
+#[tactic(auto, unfolding(crate::specs::Steps::is_named, door::specs::Records::is_record))]
 pub fn is_record(tep: u8, role: u8, identifier: &[u8], secret: &[u8]) -> bool
     ensures { result ≡ is_record tep role identifier.now secret.now }
 {
-    if !is_named(tep, identifier) {
-        return false;
-    }
-    if 1 < role {
-        return false;
-    }
-    secret.len() == 32
+    is_named(tep, identifier) && role <= 1 && secret.len() == 32
 }

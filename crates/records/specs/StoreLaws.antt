@@ -1,5 +1,5 @@
 -- Laws of store: the outcomes, in the order of the tests. Assumes nothing.
-use Rattle.std.specs.Prelude.{ℕ, ◌≤◌, ◌<◌, ◌≡◌, List, [], Bool, true, false, length}
+use Rattle.std.specs.Prelude.{ℕ, ◌≤◌, ◌<◌, ◌≡◌, List, [], Bool, true, false, length, Result, Ok}
 use Rattle.std.proofs.Common.{◌∙◌}
 use Rattle.std.proofs.Math.Path.{ap}
 use borrow.Author.Tests.{le-leb, lt-leb, lt-ltb, le-ltb}
@@ -13,12 +13,7 @@ use Rattle.door.specs.Records.{is_held, is_in_hand, is_record, store}
 use Rattle.door.specs.Answers.{refusal_number, outcome_as, beside}
 use Rattle.door.specs.declared.Door.{Door}
 use Rattle.door.specs.declared.Refusal.{Refusal}
-use Rattle.door.specs.declared.Change.{Change}
-use Rattle.door.specs.declared.Change.TheVariants as change
-use Rattle.door.specs.declared.Reply.{Reply}
-use Rattle.door.specs.declared.Reply.TheVariants as reply
 use Rattle.records.specs.Answers.{refused_store, StoresAs}
-use Rattle.records.specs.declared.Stored.{Stored}
 
 -- whether a record is held, by the search for it
 module _ (t : ℕ) (identifier : List ℕ) (l : List SessionRecord) where
@@ -30,12 +25,9 @@ module _ (t : ℕ) (identifier : List ℕ) (l : List SessionRecord) where
   unfolding is_held
   is_not_held h = le-ltb _ _ h
 
--- a record by its fields, and a store's answer by its own
+-- a record by its fields
 abbrev pub session_of : (t role : ℕ) (identifier secret : List ℕ) → SessionRecord
 session_of t role identifier secret = record { tep = t; role = role; identifier = identifier; secret = secret }
-
-abbrev pub stored_as : Change → SessionRecord → Reply → Stored
-stored_as c r a = record { change = c; added = r; reply = a }
 
 module _ (free : Bool) (v : Seen) (t role : ℕ) (identifier secret : List ℕ) where
   pub store_unfit : is_record t role identifier secret ≡ false → refuse 3 v.door [] ≡ store free v t role identifier secret
@@ -68,11 +60,11 @@ module _ (free : Bool) (v : Seen) (t role : ℕ) (identifier secret : List ℕ) 
 
 -- what the code answers, by the outcome
 module _ (d : Door) (o : Outcome) where
-  pub stores_nothing : (why : Refusal) (r : Stored) → r ≡ refused_store why → refuse (refusal_number why) d [] ≡ o → StoresAs r d o
+  pub stores_nothing : (why : Refusal) (r : Result SessionRecord Refusal) → r ≡ refused_store why → refuse (refusal_number why) d [] ≡ o → StoresAs r d o
   unfolding refused_store
   stores_nothing why r z e = rw z (record { outcome = e; added = ap (λ (x : Outcome). beside x.effect) e })
 
-  pub stores_one : (r s : SessionRecord) → r ≡ s → outcome_as done [] d (add s) ≡ o → StoresAs (stored_as change.Add r reply.Done) d o
+  pub stores_one : (r s : SessionRecord) → r ≡ s → outcome_as done [] d (add s) ≡ o → StoresAs (Ok r) d o
   stores_one r s z e =
       record {
         outcome = ap (λ (x : SessionRecord). outcome_as done [] d (add x)) z ∙ e;

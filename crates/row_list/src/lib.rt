@@ -1,20 +1,25 @@
-// A door's list of rows: what it is after a change is in specs/; how many rows it lists, and a change that does not fit. Small values only, so that a call copies the unit less often.
+// A door's list of rows: what it is after a change is in specs/; how many rows it lists. Small values only, so that a call copies the unit less often.
 #![tactic(auto)]
 
 ghost use Rattle.std.specs.Prelude.{◌≡◌, length};
 ghost use Rattle.door.specs.Numbers.{each_n};
 ghost use Rattle.unit.specs.Unit.{count_of};
-ghost use Rattle.row_list.specs.Listed.{unfit};
 
 use door::EACH;
-use unit::{Position, ROWS};
+use unit::Position;
 
-// The list after a change, with the row that is taken or freed and whether it is in use then; the number of rows stands for no row.
+// The row that a change takes or frees, and whether it is in use then.
 #[derive(Clone, Copy)]
-pub struct Listing {
-    pub fits: bool,
+pub struct RowMark {
     pub row: usize,
     pub used: bool,
+}
+
+// The list after a change that fits, with the row that is taken or freed, if one is.
+#[derive(Clone, Copy)]
+pub struct Listing {
+    pub mark: Option<RowMark>,
+    // A count beside a list of fixed length, as in `Position`, whose next list this is.
     pub count: u8,
     pub numbers: [u8; EACH],
 }
@@ -24,17 +29,4 @@ pub fn count_of(position: Position) -> usize
     ensures { (result ≡ count_of position) × (length position.rows ≡ each_n) }
 {
     door_counts::listed_count(position.count)
-}
-
-// A change that does not fit: no row, and the list is not used.
-pub fn misfit(numbers: [u8; EACH]) -> Listing
-    ensures { result ≡ unfit numbers }
-{
-    Listing {
-        fits: false,
-        row: ROWS,
-        used: false,
-        count: 0,
-        numbers,
-    }
 }

@@ -7,8 +7,8 @@ ghost use Rattle.door.specs.Calls.{cut};
 ghost use Rattle.row_list.specs.Listed.{shorter, listing_of};
 
 use door::{Change, EACH};
-use row_list::Listing;
-use unit::{Position, ROWS};
+use row_list::{Listing, RowMark};
+use unit::Position;
 
 const LAST: usize = EACH - 1;
 
@@ -18,50 +18,40 @@ fn closed_up(numbers: [u8; EACH], j: usize) -> [u8; EACH]
     ensures { result ≡ cut j numbers ++ 0 ∷ [] }
 {
     let mut left = numbers;
-    let mut k = j;
-    while k < LAST {
-        left[k] = numbers[k + 1];
-        k += 1;
-    }
+    left[j..].rotate_left(1);
     left[LAST] = 0;
     left
 }
 
 // The list without its j-th row, which is freed; a row that is not listed does not fit.
-fn without_record(n: usize, numbers: [u8; EACH], j: usize) -> Listing
+fn without_record(n: usize, numbers: [u8; EACH], j: usize) -> Option<Listing>
     requires { n ≤ each_n }
     ensures { result ≡ shorter numbers n j }
 {
     if n <= j {
-        return row_list::misfit(numbers);
+        return None;
     }
-    let row = wire::wide(numbers[j]);
+    let row = numbers[j] as usize;
     let left = closed_up(numbers, j);
-    let used = false;
-    let count = (n - 1) as u8;
-    Listing {
-        fits: true,
-        row,
-        used,
-        count,
+    Some(Listing {
+        mark: Some(RowMark { row, used: false }),
+        count: (n - 1) as u8,
         numbers: left,
-    }
+    })
 }
 
 // A door's list after a change: `free` is the row for a record that is added.
-pub fn list_after(position: Position, change: Change, free: usize) -> Listing
+pub fn list_after(position: Position, change: Change, free: usize) -> Option<Listing>
     ensures { (result ≡ listing_of position free change) × (length position.rows ≡ each_n) }
 {
     let n = row_list::count_of(position);
     let numbers = position.rows;
     match change {
-        Change::Keep => Listing {
-            fits: true,
-            row: ROWS,
-            used: false,
+        Change::Keep => Some(Listing {
+            mark: None,
             count: position.count,
             numbers,
-        },
+        }),
         Change::Add => row_list_longer::with_record(n, numbers, free),
         Change::Remove(j) => without_record(n, numbers, j),
     }

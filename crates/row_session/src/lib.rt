@@ -11,10 +11,8 @@ use eno::SessionRecord;
 pub fn session_after(change: Change, added: SessionRecord) -> SessionRecord
     ensures { result ≡ session_after change added }
 {
-    let zeros = door_values::no_session();
     match change {
-        Change::Keep => added,
-        Change::Add => added,
-        Change::Remove(j) => zeros,
+        Change::Keep | Change::Add => added,
+        Change::Remove(_) => door_values::no_session(),
     }
 }

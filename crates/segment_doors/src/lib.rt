@@ -13,45 +13,29 @@ fn open_hand(resumed: bool, hand: InHand) -> InHand
     ensures { result ≡ open_hand resumed hand }
 {
     if resumed {
-        return hand;
+        hand
+    } else {
+        door_values::empty_hand()
     }
-    door_values::empty_hand()
 }
 
 // The door opened with the verdict that it stores.
+#[tactic(auto, unfolding(door::specs::Receive::open_door))]
 pub fn open_door(door: Door) -> Door
     ensures { result ≡ open_door door }
 {
-    let own = door.own;
-    let peer = door.peer;
-    let in_hand = door.hand;
-    let hand = open_hand(door.resumed, in_hand);
-    let cause = Cause {
-        reason: 0,
-        place: 0,
-        kind: 0,
-    };
     Door {
         phase: 4,
-        mandatory: door.mandatory,
-        cause,
-        role: door.role,
-        tep: door.tep,
-        resumed: door.resumed,
-        own_length: door.own_length,
-        peer_length: door.peer_length,
-        own,
-        peer,
-        hand,
+        cause: Cause::numbered(0),
+        hand: open_hand(door.resumed, door.hand),
+        ..door
     }
 }
 
 // The door opened, or as it is.
+#[tactic(auto, unfolding(crate::specs::Steps::open_if))]
 pub fn open_if(opens: bool, door: Door) -> Door
     ensures { result ≡ open_if opens door }
 {
-    if opens {
-        return open_door(door);
-    }
-    door
+    if opens { open_door(door) } else { door }
 }

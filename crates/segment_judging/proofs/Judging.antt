@@ -1,9 +1,9 @@
 -- What the first segment of the other side comes to, by the verdict.
-use Prim.Native.Nat.{ℕ, ◌-◌, min}
+use Prim.Native.Nat.{ℕ, min}
 use mathlib.Core.Path.{◌≡◌, refl, sym, ◌∙◌, ap}
 use mathlib.Core.List.{List}
 use mathlib.Core.Bool.{Bool, true, false, cond}
-use lib.ListN.{take, drop}
+use lib.ListN.{take}
 use Rattle.eno.specs.Area.{finding, part_of, syn_option}
 use Rattle.eno.specs.Session.{in_hand}
 use Rattle.eno.specs.Judge.{Judged, judge, way_if}
@@ -18,7 +18,7 @@ use Rattle.door.specs.Door.{crossed, opened, own_option}
 use Rattle.door.specs.Answer.{plain_door}
 use Rattle.door.specs.Receive.{judging, judged_door, then_in, after_judging, received}
 use Rattle.door.specs.declared.Door.{Door}
-use Rattle.door_data.specs.Laws.{own_stored}
+use Rattle.door_data.specs.Laws.{own_taken}
 use Rattle.segment_doors.specs.Steps.{open_if}
 
 -- what opening comes to
@@ -29,15 +29,15 @@ then_crossed false d = refl
 
 -- the first segment, judged
 module _ (d : Door) (opens : Bool) (area : List ℕ) (n : ℕ) (is : n ≡ min d.own_length 40) (j : Judgement)
-    (h : Judges (judge d.mandatory (in_hand d.hand) (take (n - 0) (drop 0 d.own)) area) j) where
+    (h : Judges (judge d.mandatory (in_hand d.hand) (take n d.own) area) j) where
   abbrev judged_option : Judged
   judged_option = judge d.mandatory (in_hand d.hand) (own_option d) area
 
   abbrev judged_kept : Judged
-  judged_kept = judge d.mandatory (in_hand d.hand) (take (n - 0) (drop 0 d.own)) area
+  judged_kept = judge d.mandatory (in_hand d.hand) (take n d.own) area
 
   judged_is : judged_kept ≡ judged_option
-  judged_is = ap (λ o. judge d.mandatory (in_hand d.hand) o area) (own_stored d n is)
+  judged_is = ap (λ o. judge d.mandatory (in_hand d.hand) o area) (own_taken d n is)
 
   -- by the verdict that is told
   judged_by : (v : Verdict) → j.verdict ≡ v → after_judging d (cond opens opened crossed) (syn_option area) (judged_of v (judge-answers.transcript_of judged_kept)) ≡ received d (judging (cond opens opened crossed)) area

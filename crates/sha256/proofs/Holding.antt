@@ -4,22 +4,24 @@ use mathlib.Core.Path.{◌≡◌, refl, sym, ◌∙◌, ap, ap₂, subst}
 use mathlib.Core.List.{List, [], ◌∷◌, ◌++◌, append_assoc, append-nil}
 use native.Mathlib.Omega.{arith}
 use native.Mathlib.Numerals.{add-one}
-use native.Mathlib.Decide.{dec_lt}
 use borrow.Author.Tests.{lt-ltb, le-ltb, le-leb}
-use lib.ListN.{length, get_or, take, drop, set, replicate, length-append, length-drop, drop_of_length-le}
-use lib.Seq.{paste-suc, get_or-drop, paste, length-paste, take-paste, take-add, take-append-le, drop-append-le, length-take-le, take_all, drop_at}
+use lib.ListN.{length, take, drop, replicate, length-append, length-drop, drop_of_length-le}
+use lib.Seq.{paste, length-paste, take-paste, take-add, take-append-le, drop-append-le, length-take-le, take_all, drop_at}
 use Rattle.wire.specs.Number.{big_endian}
+use native.Mathlib.Nat.{div-one}
+use Rattle.std.specs.Int.{to_be_bytes}
+use Rattle.std.proofs.Common.{w64}
 use Rattle.refusals.specs.Rows.{refusal}
 use Rattle.hash_layout.specs.declared.Words.{Words}
-use Rattle.hash_layout.specs.declared.Hashed.{Hashed}
-use Rattle.hash_layout.specs.declared.HashSays.TheVariants as k
+use Rattle.hash_layout.specs.declared.TooLong.{TooLong}
+use Rattle.std.specs.Prelude.{Result, Ok, Err}
 use Rattle.hash_layout.specs.Constants.{initial}
 use Rattle.hash_layout.specs.Sha256.{chained, compressed, padded, zeros, sha256, bytes_of}
 use Rattle.hash_layout.specs.Outcome.{unless}
 use Rattle.hash_layout.specs.Calls.{hash, longest, too_long, digest, outcome}
 use Rattle.hash_layout.specs.Answers.{hash_told}
 use Rattle.sha256_block.specs.Blocks.{compressed_at}
-use Rattle.sha256.specs.Running.{State, Held, Begun, Adds, Stepped, Finished, capped}
+use Rattle.sha256.specs.Running.{State, Held, Begun, Adds, Stepped, Finished}
 
 -- a block that stands in a message
 at_is : (h : Words) (m : List ℕ) (at : ℕ) (g : Words) → g ≡ compressed_at h m at → at + 64 ≤ length m → g ≡ compressed h (take 64 (drop at m))
@@ -192,6 +194,11 @@ pad_front k h = rw add-one (ap (λ (l : List ℕ). 0x80 ∷ l) (take_zeros k 63 
 pub pad_long : (k : ℕ) → k < 64 → length (take (k + 1) pad_block) ≡ k + 1
 pad_long k h = length-take-le (k + 1) pad_block (omega arith)
 
+-- eight bytes, the highest first
+pub be_eight : (x : ℕ) → to_be_bytes w64 x ≡ big_endian 8 x
+unfolding big_endian
+be_eight x = simp div-one
+
 pub finished : (s t u : State) (b c d r x y : List ℕ) → Adds s b t c x → x ≡ 0x80 ∷ replicate (zeros s.len) 0 → Adds t c u d y → y ≡ big_endian 8 (s.len * 8) → r ≡ bytes_of u.h → Finished s b r
 unfolding sha256 padded
 finished s t u b c d r x y p ex q ey ed =
@@ -204,69 +211,13 @@ finished s t u b c d r x y p ex q ey ed =
           ed ∙ ap bytes_of a.value;
     }
 
-pub fill_next : (b part w : List ℕ) (used i j : ℕ) → w ≡ paste b used (drop i part) j → used + j < length b → i + j < length part
-    → set w (used + j) (get_or part (i + j) 0) ≡ paste b used (drop i part) (j + 1)
-fill_next b part w used i j e h l =
-    rw (add-one, ← get_or-drop i part j 0) (ap (λ (x : List ℕ). set x (used + j) (get_or (drop i part) j 0)) e ∙ paste-suc b used (drop i part) j 0 h (simp length-drop (omega arith)))
-
-pub fill_long : (b part w : List ℕ) (used i j : ℕ) → w ≡ paste b used (drop i part) j → used + j ≤ length b → i + j ≤ length part → length w ≡ length b
-fill_long b part w used i j e h l = ap length e ∙ length-paste b used (drop i part) j h (simp length-drop (omega arith))
-
 -- ---- what the calls give
 
--- a sum that is counted
-pub capped_below : (n : ℕ) → n < 2 ^ 61 → n ≡ capped n
-unfolding capped longest
-capped_below n h = rw (le-ltb (2 ^ 61 - 1) n (omega arith))
+abbrev pub made_of : List ℕ → Result (List ℕ) TooLong
+made_of d = Ok d
 
-pub capped_above : (n : ℕ) → 2 ^ 61 ≤ n → 2 ^ 61 ≡ capped n
-unfolding capped longest
-capped_above n h = rw (lt-ltb (2 ^ 61 - 1) n (omega arith))
-
-pub capped_most : (n : ℕ) → capped n ≤ 2 ^ 61
-capped_most n = elim (dec_lt n (2 ^ 61)) [
-  | yes h ↦ let e = capped_below n h in omega arith
-  | no h ↦ let e = capped_above n (omega arith) in omega arith
-]
-
--- counting on
-pub capped_more : (x k n r : ℕ) → k ≡ capped x → r ≡ capped (k + n) → r ≡ capped (x + n)
-capped_more x k n r e h = elim (dec_lt x (2 ^ 61)) [
-  | yes l ↦ let q : k ≡ x = e ∙ sym (capped_below x l) in h ∙ ap (λ z. capped (z + n)) q
-  | no l ↦
-      let q : k ≡ 2 ^ 61 = e ∙ sym (capped_above x (omega arith)) in
-      h ∙ (sym (capped_above (k + n) (omega arith)) ∙ capped_above (x + n) (omega arith))
-]
-
--- what is not too long has been counted exactly
-pub capped_exact : (x r : ℕ) → r ≡ capped x → r < 2 ^ 61 → x ≡ r
-capped_exact x r e h = elim (dec_lt x (2 ^ 61)) [
-  | yes l ↦ capped_below x l ∙ sym e
-  | no l ↦ let q = capped_above x (omega arith) in absurd (omega arith)
-]
-
-pub capped_long : (x r : ℕ) → r ≡ capped x → 2 ^ 61 ≤ r → 2 ^ 61 ≤ x
-capped_long x r e h = elim (dec_lt x (2 ^ 61)) [
-  | yes l ↦ let q = capped_below x l in absurd (omega arith)
-  | no l ↦ omega arith
-]
-
-pub capped_fits : (x r : ℕ) → r ≡ capped x → r ≤ 2 ^ 61
-capped_fits x r e = let m = capped_most x in omega arith
-
-pub capped_five : (a b c d e n1 n2 n3 n4 n5 : ℕ) → n1 ≡ capped (0 + a) → n2 ≡ capped (n1 + b) → n3 ≡ capped (n2 + c) → n4 ≡ capped (n3 + d) → n5 ≡ capped (n4 + e) → n5 ≡ capped (a + b + c + d + e)
-capped_five a b c d e n1 n2 n3 n4 n5 e1 e2 e3 e4 e5 =
-    let z : 0 + a + b + c + d + e ≡ a + b + c + d + e = omega arith in
-    let f2 = capped_more (0 + a) n1 b n2 e1 e2 in
-    let f3 = capped_more (0 + a + b) n2 c n3 f2 e3 in
-    let f4 = capped_more (0 + a + b + c) n3 d n4 f3 e4 in
-    capped_more (0 + a + b + c + d) n4 e n5 f4 e5 ∙ ap capped z
-
-abbrev pub made_of : List ℕ → Hashed
-made_of d = record { says = k.Made; bytes = d }
-
-abbrev pub no_hash : Hashed
-no_hash = record { says = k.TooLong; bytes = replicate 32 0 }
+abbrev pub no_hash : Result (List ℕ) TooLong
+no_hash = Err (record {})
 
 pub hash_made : (m d : List ℕ) → length m < 2 ^ 61 → d ≡ sha256 m → hash_told (made_of d) ≡ outcome (hash m)
 unfolding outcome unless refusal too_long longest digest
@@ -280,18 +231,16 @@ hash_long m l = rw (lt-ltb (2 ^ 61 - 1) (length m) (omega arith))
 pub five_long : (a b c d e : List ℕ) → length (a ++ (b ++ (c ++ (d ++ e)))) ≡ length a + length b + length c + length d + length e
 five_long a b c d e = rw (length-append a (b ++ (c ++ (d ++ e))), length-append b (c ++ (d ++ e)), length-append c (d ++ e), length-append d e) (omega arith)
 
--- counted: they are too long, or not
-pub five_over : (a b c d e : List ℕ) (n : ℕ) → n ≡ capped (length a + length b + length c + length d + length e) → 2 ^ 61 ≤ n → hash_told no_hash ≡ outcome (hash (a ++ (b ++ (c ++ (d ++ e)))))
-five_over a b c d e n en h =
+-- they are too long, or not
+pub five_over : (a b c d e : List ℕ) → 2 ^ 61 ≤ length a + length b + length c + length d + length e → hash_told no_hash ≡ outcome (hash (a ++ (b ++ (c ++ (d ++ e)))))
+five_over a b c d e h =
     let l = five_long a b c d e in
-    let t = capped_long (length a + length b + length c + length d + length e) n en h in
     hash_long (a ++ (b ++ (c ++ (d ++ e)))) (omega arith)
 
-pub five_fits : (a b c d e r : List ℕ) (n : ℕ) → n ≡ capped (length a + length b + length c + length d + length e) → n < 2 ^ 61 → r ≡ sha256 (a ++ (b ++ (c ++ (d ++ e))))
+pub five_fits : (a b c d e r : List ℕ) → length a + length b + length c + length d + length e < 2 ^ 61 → r ≡ sha256 (a ++ (b ++ (c ++ (d ++ e))))
     → hash_told (made_of r) ≡ outcome (hash (a ++ (b ++ (c ++ (d ++ e)))))
-five_fits a b c d e r n en h er =
+five_fits a b c d e r h er =
     let l = five_long a b c d e in
-    let t = capped_exact (length a + length b + length c + length d + length e) n en h in
     hash_made (a ++ (b ++ (c ++ (d ++ e)))) r (omega arith) er
 
 pub five_made : (s0 s1 s2 s3 s4 s5 : State) (b0 b1 b2 b3 b4 b5 a b c d e r : List ℕ) → Begun s0 → length b0 ≡ 64
@@ -303,5 +252,5 @@ five_made s0 s1 s2 s3 s4 s5 b0 b1 b2 b3 b4 b5 a b c d e r g l p1 p2 p3 p4 p5 f =
     let q1 = adds_then s0 s1 s5 b0 b1 b5 a (b ++ (c ++ (d ++ e))) p1 q2 in
     f.digest (a ++ (b ++ (c ++ (d ++ e)))) (q1.holds [] (g.holds b0 l))
 
-pub hash_one : (m : List ℕ) (r : Hashed) → hash_told r ≡ outcome (hash (m ++ ([] ++ ([] ++ ([] ++ []))))) → hash_told r ≡ outcome (hash m)
+pub hash_one : (m : List ℕ) (r : Result (List ℕ) TooLong) → hash_told r ≡ outcome (hash (m ++ ([] ++ ([] ++ ([] ++ []))))) → hash_told r ≡ outcome (hash m)
 hash_one m r e = rw append-nil at e

@@ -7,11 +7,11 @@ ghost use Rattle.wire.specs.Number.{big_endian};
 ghost use Rattle.hash_layout.specs.Sha256.{bytes_of, sha256};
 ghost use Rattle.hash_layout.specs.Calls.{Ask, outcome};
 ghost use Rattle.hash_layout.specs.Answers.{hash_told};
-ghost use Rattle.sha256.specs.Running.{Begun, Adds, Stepped, Finished, capped};
+ghost use Rattle.sha256.specs.Running.{Begun, Adds, Stepped, Finished};
 
-use hash_layout::{HashSays, Hashed, Words};
+use hash_layout::{TooLong, Words};
 
-// A running hash: the hash value of the whole blocks, and the number of bytes. The bytes after the blocks stand in a buffer of 64 bytes that is lent to each step.
+// A running hash: the hash value of the whole blocks, and the number of bytes. The bytes after the blocks stand in a buffer of 64 bytes that is lent to each step, and no field, since `Held` and `Adds` (specs/Running) name the buffer beside the two.
 #[derive(Clone, Copy)]
 struct Running {
     h: Words,
@@ -25,10 +25,8 @@ struct Taken {
     next: usize,
 }
 
-// The most bytes that are hashed, 2^61 - 1, and one more, which stands for any number above it.
-const LONGEST: usize = 0x1fffffffffffffff;
-
-const TOO_LONG: usize = 0x2000000000000000;
+// The most bytes that are hashed, 2^61 - 1.
+const LONGEST: u128 = 0x1fffffffffffffff;
 
 fn start() -> Running
     ensures { Begun result }
@@ -51,11 +49,7 @@ fn fill(buf: &mut [u8], used: usize, part: &[u8], i: usize, k: usize)
     requires { (used + k ≤ length buf.old) × (i + k ≤ length part.now) }
     ensures { buf.new ≡ paste buf.old used (drop i part.now) k }
 {
-    let mut j = 0;
-    while j < k {
-        buf[used + j] = part[i + j];
-        j += 1;
-    }
+    buf[used..used + k].copy_from_slice(&part[i..i + k]);
 }
 
 // Takes in bytes of part from i on: a whole block where it can, else what fills the buffer.
@@ -63,38 +57,34 @@ fn step(s: Running, buf: &mut [u8], part: &[u8], i: usize) -> Taken
     requires { (length buf.old ≡ 64) × (s.len + (length part.now - i) < 2 ^ 62) × (i < length part.now) }
     ensures { Stepped s buf.old part.now i result.s buf.new result.next }
 {
-    let len = s.len;
-    let h = s.h;
-    let used = (len % 64) as usize;
+    let used = (s.len % 64) as usize;
     let rest = part.len() - i;
-    if used == 0 {
-        if rest >= 64 {
-            let g = sha256_block::compress(h, part, i);
-            let now = len + 64;
-            let next = i + 64;
-            return Taken {
-                s: Running { h: g, len: now },
-                next,
-            };
-        }
+    if used == 0 && rest >= 64 {
+        let h = sha256_block::compress(s.h, part, i);
+        return Taken {
+            s: Running { h, len: s.len + 64 },
+            next: i + 64,
+        };
     }
     let room = 64 - used;
     if rest < room {
         fill(buf, used, part, i, rest);
-        let now = len + (rest as u64);
-        let next = i + rest;
         return Taken {
-            s: Running { h, len: now },
-            next,
+            s: Running {
+                h: s.h,
+                len: s.len + (rest as u64),
+            },
+            next: i + rest,
         };
     }
     fill(buf, used, part, i, room);
-    let g = sha256_block::compress(h, buf, 0);
-    let now = len + (room as u64);
-    let next = i + room;
+    let h = sha256_block::compress(s.h, buf, 0);
     Taken {
-        s: Running { h: g, len: now },
-        next,
+        s: Running {
+            h,
+            len: s.len + (room as u64),
+        },
+        next: i + room,
     }
 }
 
@@ -105,6 +95,7 @@ fn update(s: Running, buf: &mut [u8], part: &[u8]) -> Running
 {
     let mut r = s;
     let mut i = 0;
+    // A step takes a whole block, or what fills the buffer, so no iterator over chunks of part has its places.
     while i < part.len() {
         let t = step(r, buf, part, i);
         r = t.s;
@@ -113,59 +104,20 @@ fn update(s: Running, buf: &mut [u8], part: &[u8]) -> Running
     r
 }
 
-// The low eight bytes of x, and the words of h, the highest byte first.
-fn be8(x: u64) -> [u8; 8]
-    ensures { result ≡ big_endian 8 x }
-{
-    [
-        (x / 0x100000000000000 % 256) as u8,
-        (x / 0x1000000000000 % 256) as u8,
-        (x / 0x10000000000 % 256) as u8,
-        (x / 0x100000000 % 256) as u8,
-        (x / 0x1000000 % 256) as u8,
-        (x / 0x10000 % 256) as u8,
-        (x / 0x100 % 256) as u8,
-        (x % 256) as u8,
-    ]
-}
-
+// The words of h, the highest byte of each first.
 fn bytes_of(h: Words) -> [u8; 32]
     ensures { result ≡ bytes_of h }
 {
-    [
-        (h.a / 0x1000000 % 256) as u8,
-        (h.a / 0x10000 % 256) as u8,
-        (h.a / 0x100 % 256) as u8,
-        (h.a % 256) as u8,
-        (h.b / 0x1000000 % 256) as u8,
-        (h.b / 0x10000 % 256) as u8,
-        (h.b / 0x100 % 256) as u8,
-        (h.b % 256) as u8,
-        (h.c / 0x1000000 % 256) as u8,
-        (h.c / 0x10000 % 256) as u8,
-        (h.c / 0x100 % 256) as u8,
-        (h.c % 256) as u8,
-        (h.d / 0x1000000 % 256) as u8,
-        (h.d / 0x10000 % 256) as u8,
-        (h.d / 0x100 % 256) as u8,
-        (h.d % 256) as u8,
-        (h.e / 0x1000000 % 256) as u8,
-        (h.e / 0x10000 % 256) as u8,
-        (h.e / 0x100 % 256) as u8,
-        (h.e % 256) as u8,
-        (h.f / 0x1000000 % 256) as u8,
-        (h.f / 0x10000 % 256) as u8,
-        (h.f / 0x100 % 256) as u8,
-        (h.f % 256) as u8,
-        (h.g / 0x1000000 % 256) as u8,
-        (h.g / 0x10000 % 256) as u8,
-        (h.g / 0x100 % 256) as u8,
-        (h.g % 256) as u8,
-        (h.h / 0x1000000 % 256) as u8,
-        (h.h / 0x10000 % 256) as u8,
-        (h.h / 0x100 % 256) as u8,
-        (h.h % 256) as u8,
-    ]
+    let mut bytes = [0u8; 32];
+    bytes[0..4].copy_from_slice(&h.a.to_be_bytes());
+    bytes[4..8].copy_from_slice(&h.b.to_be_bytes());
+    bytes[8..12].copy_from_slice(&h.c.to_be_bytes());
+    bytes[12..16].copy_from_slice(&h.d.to_be_bytes());
+    bytes[16..20].copy_from_slice(&h.e.to_be_bytes());
+    bytes[20..24].copy_from_slice(&h.f.to_be_bytes());
+    bytes[24..28].copy_from_slice(&h.g.to_be_bytes());
+    bytes[28..32].copy_from_slice(&h.h.to_be_bytes());
+    bytes
 }
 
 // The digest of what the running hash has taken in: the padding is taken in behind it.
@@ -179,35 +131,9 @@ fn finish(s: Running, buf: &mut [u8]) -> [u8; 32]
     let mut pad = [0u8; 64];
     pad[0] = 0x80;
     let t = update(s, buf, &pad[..n]);
-    let bits = be8(len * 8);
+    let bits = (len * 8).to_be_bytes();
     let u = update(t, buf, &bits);
     bytes_of(u.h)
-}
-
-// The sum of two lengths, TOO_LONG for any sum above LONGEST.
-fn counted(k: usize, n: usize) -> usize
-    requires { k ≤ 2 ^ 61 }
-    ensures { result ≡ capped (k + n) }
-{
-    if n > LONGEST {
-        return TOO_LONG;
-    }
-    let sum = k + n;
-    if sum > LONGEST {
-        return TOO_LONG;
-    }
-    sum
-}
-
-// The sum of five lengths, counted so.
-fn total(a: usize, b: usize, c: usize, d: usize, e: usize) -> usize
-    ensures { result ≡ capped (a + b + c + d + e) }
-{
-    let n1 = counted(0, a);
-    let n2 = counted(n1, b);
-    let n3 = counted(n2, c);
-    let n4 = counted(n3, d);
-    counted(n4, e)
 }
 
 // The digest of five parts, with a buffer of 64 bytes.
@@ -225,28 +151,26 @@ fn digest_of(buf: &mut [u8], a: &[u8], b: &[u8], c: &[u8], d: &[u8], e: &[u8]) -
 }
 
 // The hash of five parts, one after the other.
-pub fn hash_parts(a: &[u8], b: &[u8], c: &[u8], d: &[u8], e: &[u8]) -> Hashed
+#[tactic(auto, using(crate::proofs::Holding::five_over, crate::proofs::Holding::five_fits))]
+pub fn hash_parts(a: &[u8], b: &[u8], c: &[u8], d: &[u8], e: &[u8]) -> Result<[u8; 32], TooLong>
     ensures { hash_told result ≡ outcome (Ask.hash (a.now ++ (b.now ++ (c.now ++ (d.now ++ e.now))))) }
 {
-    let n = total(a.len(), b.len(), c.len(), d.len(), e.len());
+    let n = (a.len() as u128)
+        + (b.len() as u128)
+        + (c.len() as u128)
+        + (d.len() as u128)
+        + (e.len() as u128);
     if n > LONGEST {
-        return Hashed {
-            says: HashSays::TooLong,
-            bytes: [0u8; 32],
-        };
+        return Err(TooLong);
     }
     let mut buf = [0u8; 64];
-    let bytes = digest_of(&mut buf, a, b, c, d, e);
-    Hashed {
-        says: HashSays::Made,
-        bytes,
-    }
+    Ok(digest_of(&mut buf, a, b, c, d, e))
 }
 
 // The hash of a message.
-pub fn hash(message: &[u8]) -> Hashed
+#[tactic(auto, using(crate::proofs::Holding::hash_one))]
+pub fn hash(message: &[u8]) -> Result<[u8; 32], TooLong>
     ensures { hash_told result ≡ outcome (Ask.hash message.now) }
 {
-    let none = [0u8; 0];
-    hash_parts(message, &none, &none, &none, &none)
+    hash_parts(message, &[], &[], &[], &[])
 }

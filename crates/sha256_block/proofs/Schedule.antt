@@ -1,13 +1,11 @@
 -- The loops of the message schedule and of the rounds, one law a turn. Assumes nothing.
-use Prim.Native.Nat.{ℕ, zero, suc, ◌+◌, ◌-◌, ◌*◌, ◌/◌, ◌%◌, ◌^◌, ◌≤◌, ◌<◌}
-use mathlib.Core.Path.{◌≡◌, refl, sym, ◌∙◌, ap, ap₂, subst}
+use Prim.Native.Nat.{ℕ, ◌+◌, ◌-◌, ◌*◌, ◌%◌, ◌^◌, ◌≤◌, ◌<◌}
+use mathlib.Core.Path.{◌≡◌, refl, sym, ◌∙◌, ap, ap₂}
 use mathlib.Core.List.{List, [], ◌∷◌, ◌++◌}
-use mathlib.Core.Bool.{Bool, true, false, cond}
 use native.Mathlib.Omega.{arith}
 use native.Mathlib.Numerals.{add-one}
 use native.Mathlib.Nat.{add_assoc}
 use borrow.Author.Tests.{lt-ltb, le-ltb, le-leb, lt-leb}
-use lib.Dec.{ltb, leb}
 use lib.ListN.{length, get_or, take, drop, set, length-set}
 use lib.Seq.{take-suc-set, get_or-take, get_or-drop, take-length}
 use Rattle.hash_layout.specs.declared.Words.{Words}
@@ -64,17 +62,21 @@ word_at m at t h =
     byte : (i : ℕ) → i < 64 → get_or (take 64 (drop at m)) i 0 ≡ get_or m (at + i) 0
     byte i l = get_or-take 64 (drop at m) i 0 l ∙ get_or-drop at m i 0
 
+-- sums modulo 2^32, one after the other
+pub sum_five : (a b c d e : ℕ) → ((((a + b) % 2 ^ 32 + c) % 2 ^ 32 + d) % 2 ^ 32 + e) % 2 ^ 32 ≡ (a + b + c + d + e) % 2 ^ 32
+sum_five a b c d e = omega arith
+
+pub sum_four : (a b c d : ℕ) → (((a + b) % 2 ^ 32 + c) % 2 ^ 32 + d) % 2 ^ 32 ≡ (a + b + c + d) % 2 ^ 32
+sum_four a b c d = omega arith
+
 -- a round, from the values of its parts
-pub round_made : (s : Words) (k w x1 x2 x3 x4 t1 t2 a e : ℕ)
-    → x1 ≡ big_sigma1 s.e → x2 ≡ ch s.e s.f s.g → t1 ≡ (s.h + x1 + x2 + k + w) % 2 ^ 32
-    → x3 ≡ big_sigma0 s.a → x4 ≡ maj s.a s.b s.c → t2 ≡ (x3 + x4) % 2 ^ 32
-    → a ≡ (t1 + t2) % 2 ^ 32 → e ≡ (s.d + t1) % 2 ^ 32
-    → made a s.a s.b s.c e s.e s.f s.g ≡ round_of s k w
+pub round_made : (s : Words) (k w x1 x2 x3 x4 : ℕ) → x1 ≡ big_sigma1 s.e → x2 ≡ ch s.e s.f s.g → x3 ≡ big_sigma0 s.a → x4 ≡ maj s.a s.b s.c
+    → made ((((((s.h + x1) % 2 ^ 32 + x2) % 2 ^ 32 + k) % 2 ^ 32 + w) % 2 ^ 32 + (x3 + x4) % 2 ^ 32) % 2 ^ 32) s.a s.b s.c ((s.d + ((((s.h + x1) % 2 ^ 32 + x2) % 2 ^ 32 + k) % 2 ^ 32 + w) % 2 ^ 32) % 2 ^ 32) s.e s.f s.g ≡ round_of s k w
 unfolding round_of temp1 temp2
-round_made s k w x1 x2 x3 x4 t1 t2 a e p1 p2 q1 p3 p4 q2 ea ee =
-    let f1 : t1 ≡ temp1 s k w = rw (q1, p1, p2) in
-    let f2 : t2 ≡ temp2 s = rw (q2, p3, p4) in
-    ap₂ (λ (y z : ℕ). made y s.a s.b s.c z s.e s.f s.g) (rw (ea, f1, f2)) (rw (ee, f1))
+round_made s k w x1 x2 x3 x4 p1 p2 p3 p4 =
+    let f1 : ((((s.h + x1) % 2 ^ 32 + x2) % 2 ^ 32 + k) % 2 ^ 32 + w) % 2 ^ 32 ≡ temp1 s k w = sum_five s.h x1 x2 k w ∙ ap₂ (λ (y z : ℕ). (s.h + y + z + k + w) % 2 ^ 32) p1 p2 in
+    let f2 : (x3 + x4) % 2 ^ 32 ≡ temp2 s = ap₂ (λ (y z : ℕ). (y + z) % 2 ^ 32) p3 p4 in
+    ap₂ (λ (y z : ℕ). made ((y + z) % 2 ^ 32) s.a s.b s.c ((s.d + y) % 2 ^ 32) s.e s.f s.g) f1 f2
 
 pub rounds_start : (w : List ℕ) (h : Words) → h ≡ rounds w h 0
 unfolding rounds

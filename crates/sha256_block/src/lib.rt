@@ -35,64 +35,43 @@ fn maj(x: u32, y: u32, z: u32) -> u32
 fn big0(x: u32) -> u32
     ensures { result ≡ big_sigma0 x }
 {
-    ((x >> 2) | (x << 30)) ^ ((x >> 13) | (x << 19)) ^ ((x >> 22) | (x << 10))
+    x.rotate_right(2) ^ x.rotate_right(13) ^ x.rotate_right(22)
 }
 
 fn big1(x: u32) -> u32
     ensures { result ≡ big_sigma1 x }
 {
-    ((x >> 6) | (x << 26)) ^ ((x >> 11) | (x << 21)) ^ ((x >> 25) | (x << 7))
+    x.rotate_right(6) ^ x.rotate_right(11) ^ x.rotate_right(25)
 }
 
 fn small0(x: u32) -> u32
     ensures { result ≡ sigma0 x }
 {
-    ((x >> 7) | (x << 25)) ^ ((x >> 18) | (x << 14)) ^ (x >> 3)
+    x.rotate_right(7) ^ x.rotate_right(18) ^ (x >> 3)
 }
 
 fn small1(x: u32) -> u32
     ensures { result ≡ sigma1 x }
 {
-    ((x >> 17) | (x << 15)) ^ ((x >> 19) | (x << 13)) ^ (x >> 10)
-}
-
-// Sums modulo 2^32.
-fn sum2(a: u32, b: u32) -> u32
-    ensures { result ≡ (a + b) % 2 ^ 32 }
-{
-    (((a as u64) + (b as u64)) % 0x100000000) as u32
-}
-
-fn sum4(a: u32, b: u32, c: u32, d: u32) -> u32
-    ensures { result ≡ (a + b + c + d) % 2 ^ 32 }
-{
-    (((a as u64) + (b as u64) + (c as u64) + (d as u64)) % 0x100000000) as u32
-}
-
-fn sum5(a: u32, b: u32, c: u32, d: u32, e: u32) -> u32
-    ensures { result ≡ (a + b + c + d + e) % 2 ^ 32 }
-{
-    (((a as u64) + (b as u64) + (c as u64) + (d as u64) + (e as u64)) % 0x100000000) as u32
-}
-
-// Four bytes, the highest first.
-fn be(a: u8, b: u8, c: u8, d: u8) -> u32
-    ensures { result ≡ a * 2 ^ 24 + b * 2 ^ 16 + c * 2 ^ 8 + d }
-{
-    (a as u32) * 0x1000000 + (b as u32) * 0x10000 + (c as u32) * 0x100 + (d as u32)
+    x.rotate_right(17) ^ x.rotate_right(19) ^ (x >> 10)
 }
 
 fn round(s: Words, k: u32, w: u32) -> Words
     ensures { result ≡ round_of s k w }
 {
-    let t1 = sum5(s.h, big1(s.e), ch(s.e, s.f, s.g), k, w);
-    let t2 = sum2(big0(s.a), maj(s.a, s.b, s.c));
+    let t1 = s
+        .h
+        .wrapping_add(big1(s.e))
+        .wrapping_add(ch(s.e, s.f, s.g))
+        .wrapping_add(k)
+        .wrapping_add(w);
+    let t2 = big0(s.a).wrapping_add(maj(s.a, s.b, s.c));
     Words {
-        a: sum2(t1, t2),
+        a: t1.wrapping_add(t2),
         b: s.a,
         c: s.b,
         d: s.c,
-        e: sum2(s.d, t1),
+        e: s.d.wrapping_add(t1),
         f: s.e,
         g: s.f,
         h: s.g,
@@ -105,17 +84,15 @@ fn scheduled(m: &[u8], at: usize) -> [u32; 64]
     ensures { result ≡ schedule (take 64 (drop at m.now)) 64 }
 {
     let mut w = [0u32; 64];
-    let mut t = 0;
-    while t < 16 {
+    for t in 0..16 {
         let i = at + t * 4;
-        w[t] = be(m[i], m[i + 1], m[i + 2], m[i + 3]);
-        t += 1;
+        w[t] = u32::from_be_bytes([m[i], m[i + 1], m[i + 2], m[i + 3]]);
     }
-    while t < 64 {
-        let x = small1(w[t - 2]);
-        let y = small0(w[t - 15]);
-        w[t] = sum4(x, w[t - 7], y, w[t - 16]);
-        t += 1;
+    for t in 16..64 {
+        w[t] = small1(w[t - 2])
+            .wrapping_add(w[t - 7])
+            .wrapping_add(small0(w[t - 15]))
+            .wrapping_add(w[t - 16]);
     }
     w
 }
@@ -131,14 +108,14 @@ fn added(x: Words, y: Words) -> Words
     ensures { result ≡ plus x y }
 {
     Words {
-        a: sum2(x.a, y.a),
-        b: sum2(x.b, y.b),
-        c: sum2(x.c, y.c),
-        d: sum2(x.d, y.d),
-        e: sum2(x.e, y.e),
-        f: sum2(x.f, y.f),
-        g: sum2(x.g, y.g),
-        h: sum2(x.h, y.h),
+        a: x.a.wrapping_add(y.a),
+        b: x.b.wrapping_add(y.b),
+        c: x.c.wrapping_add(y.c),
+        d: x.d.wrapping_add(y.d),
+        e: x.e.wrapping_add(y.e),
+        f: x.f.wrapping_add(y.f),
+        g: x.g.wrapping_add(y.g),
+        h: x.h.wrapping_add(y.h),
     }
 }
 
@@ -150,24 +127,20 @@ fn block(h: Words, m: &[u8], at: usize) -> Words
     let w = scheduled(m, at);
     let k = table();
     let mut s = h;
-    let mut t = 0;
-    while t < 64 {
+    for t in 0..64 {
         s = round(s, k[t], w[t]);
-        t += 1;
     }
     added(h, s)
 }
 
 // The hash value after the 64 bytes from at on; h itself where no 64 bytes stand there.
+#[tactic(auto, using(crate::proofs::Schedule::at_none, crate::proofs::Schedule::at_block))]
 pub fn compress(h: Words, m: &[u8], at: usize) -> Words
     ensures { result ≡ compressed_at h m.now at }
 {
-    if m.len() < 64 {
-        return h;
+    if m.len() < 64 || m.len() - 64 < at {
+        h
+    } else {
+        block(h, m, at)
     }
-    let last = m.len() - 64;
-    if last < at {
-        return h;
-    }
-    block(h, m, at)
 }

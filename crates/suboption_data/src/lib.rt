@@ -8,21 +8,17 @@ ghost use Rattle.suboptions.specs.Summary.{as_sent};
 use suboptions::Entry;
 
 // Whether what was sent of a TEP is fresh.
+#[tactic(auto, unfolding(eno::specs::Judge::is_fresh))]
 pub fn is_fresh(e: Entry) -> bool
     ensures { result ≡ is_fresh (as_sent e) }
 {
-    if e.byte < 0x80 {
-        return true;
-    }
-    e.len < 9
+    e.byte < 0x80 || e.len < 9
 }
 
 // Whether it is bad.
+#[tactic(auto, unfolding(eno::specs::Judge::is_bad))]
 pub fn is_bad(e: Entry) -> bool
     ensures { result ≡ is_bad (as_sent e) }
 {
-    if is_fresh(e) {
-        return false;
-    }
-    18 <= e.len
+    !is_fresh(e) && 18 <= e.len
 }

@@ -1,20 +1,21 @@
--- Which choice comes first.
-use Prim.Native.Nat.{ℕ}
-use mathlib.Core.Path.{◌≡◌, sym, ◌∙◌, ap}
-use mathlib.Core.List.{List}
-use Rattle.eno.specs.declared.SessionRecord.{SessionRecord}
+-- Which choice comes first, and that plain TCP has the reason 6 where there is none.
+use Rattle.std.specs.Prelude.{ℕ, ◌≡◌, List, Option, Some, None, Result, Ok, Err}
+use Rattle.std.specs.Option.{ok_or}
+use Rattle.std.proofs.Common.{◌∙◌, ap, ap₂}
+use Rattle.eno.specs.Cause.{numbered}
 use Rattle.eno.specs.declared.Cause.{Cause}
+use Rattle.eno.specs.declared.SessionRecord.{SessionRecord}
 use Rattle.suboptions.specs.declared.Entry.{Entry}
-use Rattle.door.specs.Answer.{Answering, with}
-use Rattle.tep_choice.specs.Choosing.{chosen, decision_of, last_resumed, last_fresh, first_or, chosen_by}
-use Rattle.tep_choice.specs.declared.Decision.{Decision}
-use Rattle.tep_choice.specs.declared.Decision.TheVariants as decision
+use Rattle.tep_choice.specs.Choosing.{decision_of, chosen_or_none, last_resumed, last_fresh, first_or, chosen_by}
+use Rattle.tep_choice.specs.declared.Chosen.{Chosen}
 
-module _ (o : List ℕ) (es : List Entry) (list : List ℕ) (held : List SessionRecord) (x : Decision) (is : decision_of x ≡ last_resumed o es list held) where
-  pub chosen_resumed : (t j : ℕ) → x ≡ decision.With t j → with (chosen t j) ≡ chosen_by o es list held
+module _ (o : List ℕ) (es : List Entry) (list : List ℕ) (held : List SessionRecord) where
+  pub chosen_resumed : (x : Chosen) → chosen_or_none (Some x) ≡ last_resumed o es list held → decision_of (Ok x) ≡ chosen_by o es list held
   unfolding chosen_by first_or
-  chosen_resumed t j p = ap (λ a. first_or a (last_fresh es list held)) (sym (ap decision_of p) ∙ is)
+  chosen_resumed x p = ap (λ r. first_or r (last_fresh es list held)) p
 
-  pub chosen_fresh : (n : Cause) → x ≡ decision.Plain n → (a : Answering) → a ≡ last_fresh es list held → a ≡ chosen_by o es list held
+  pub chosen_fresh : (b : Option Chosen) (n : Cause) (d : Result Chosen Cause)
+      → chosen_or_none None ≡ last_resumed o es list held → chosen_or_none b ≡ last_fresh es list held → n ≡ numbered 6 → d ≡ ok_or b n → decision_of d ≡ chosen_by o es list held
   unfolding chosen_by first_or
-  chosen_fresh n p a f = f ∙ ap (λ b. first_or b (last_fresh es list held)) (sym (ap decision_of p) ∙ is)
+  chosen_fresh (Some y) n d p q f g = ap decision_of g ∙ ap₂ first_or p q
+  chosen_fresh None n d p q f g = ap decision_of g ∙ (ap (λ c. decision_of (Err c)) f ∙ ap₂ first_or p q)

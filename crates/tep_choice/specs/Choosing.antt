@@ -1,5 +1,6 @@
 -- How the code chooses the TEP of an answer: by the entries of the summary of A's option.
-use Rattle.std.specs.Prelude.{ℕ, ◌-◌, List, Bool, cond, not, ◌&&◌, ltb, eqb, length, get_or}
+use Rattle.std.specs.Prelude.{ℕ, ◌-◌, List, Bool, cond, not, ◌&&◌, ltb, eqb, length, get_or, Result, Ok, Err}
+use Rattle.std.specs.Prelude as p
 use Rattle.std.proofs.Math.Option.{Option, none, some}
 use Rattle.eno.specs.Cause.{numbered}
 use Rattle.eno.specs.Tep.{is_known}
@@ -10,17 +11,22 @@ use Rattle.suboptions.specs.declared.Entry.{Entry}
 use Rattle.door.specs.Record.{first_that}
 use Rattle.door_search.specs.Search.{expects}
 use Rattle.door.specs.Answer.{last_that, Choice, Answering, plain_for, with}
-use Rattle.tep_choice.specs.declared.Decision.{Decision}
-use Rattle.tep_choice.specs.declared.Decision.TheVariants as decision
+use Rattle.eno.specs.declared.Cause.{Cause}
+use Rattle.tep_choice.specs.declared.Chosen.{Chosen}
 
 -- a TEP that is answered, and which record is resumed
 abbrev pub chosen : ℕ → ℕ → Choice
 chosen t j = record { tep = t; at = j }
 
 -- what an answer comes to
-abbrev pub decision_of : Decision → Answering
-decision_of (decision.Plain n) = plain_for n
-decision_of (decision.With t j) = with (chosen t j)
+abbrev pub decision_of : Result Chosen Cause → Answering
+decision_of (Err n) = plain_for n
+decision_of (Ok c) = with (chosen c.tep c.at)
+
+-- what a search for the TEP comes to: 6 where it finds none
+abbrev pub chosen_or_none : p.Option Chosen → Answering
+chosen_or_none p.None = plain_for (numbered 6)
+chosen_or_none (p.Some c) = with (chosen c.tep c.at)
 
 -- the entry of the TEP t; never sent where the unit does not know it
 unfoldable pub entry_of : List Entry → ℕ → Entry

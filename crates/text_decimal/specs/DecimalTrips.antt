@@ -1,7 +1,7 @@
 -- Decimal words and numbers are each other's: what is written is read back, and what is read was written so. Assumes nothing.
 use Rattle.std.specs.Prelude.{ℕ, zero, suc, ◌+◌, ◌*◌, ◌-◌, ◌/◌, ◌%◌, ◌^◌, ◌≤◌, ◌<◌, ◌≡◌, refl, List, [], ◌∷◌, ◌++◌, Bool, true, false, cond, ◌&&◌, leb, ltb, eqb, length, get_or}
 use Rattle.std.proofs.Common.{sym, ◌∙◌, ap, ap₂, subst, append-nil, pow-suc, arith, eqb-true, lt-ltb, le-ltb, ltb-true, ltb-false, leb-true, length-append}
-use Rattle.std.proofs.Math.Option.{Option, none, some}
+use Rattle.std.specs.Prelude.{Option, None, Some}
 use Rattle.std.proofs.lemmas.Bool.{false≢true, eqb-false}
 use Rattle.std.proofs.Math.Seq.{append_snoc}
 use Rattle.text_decimal.specs.Decimal.{numbers, is_digit, fitting, digits_after, number_said, digits_in, decimal_text}
@@ -37,33 +37,33 @@ digits_room (suc f) n h = go (λ q. digits_room f (n / 10) q) (ltb n 10) refl
         ∙ sym (digits_more (suc f) n k))
 
 -- one digit more behind a word
-pub after_snoc : (u : List ℕ) (a m c : ℕ) → digits_after a u ≡ some m → 48 ≤ c → c ≤ 57 → digits_after a (u ++ (c ∷ [])) ≡ some (m * 10 + (c - 48))
+pub after_snoc : (u : List ℕ) (a m c : ℕ) → digits_after a u ≡ Some m → 48 ≤ c → c ≤ 57 → digits_after a (u ++ (c ∷ [])) ≡ Some (m * 10 + (c - 48))
 unfolding digits_after
-after_snoc [] a m c e h k = let z : a ≡ m = cc in simp (digit_yes c h k) (ap (λ x. some (x * 10 + (c - 48))) z)
+after_snoc [] a m c e h k = let z : a ≡ m = cc in simp (digit_yes c h k) (ap (λ x. Some (x * 10 + (c - 48))) z)
 after_snoc (x ∷ u) a m c e h k = go (is_digit x) (λ q. after_snoc u (a * 10 + (x - 48)) m c q h k) e
   where
-    go : (t : Bool) → (digits_after (a * 10 + (x - 48)) u ≡ some m → digits_after (a * 10 + (x - 48)) (u ++ (c ∷ [])) ≡ some (m * 10 + (c - 48)))
-        → cond t (digits_after (a * 10 + (x - 48)) u) none ≡ some m → cond t (digits_after (a * 10 + (x - 48)) (u ++ (c ∷ []))) none ≡ some (m * 10 + (c - 48))
+    go : (t : Bool) → (digits_after (a * 10 + (x - 48)) u ≡ Some m → digits_after (a * 10 + (x - 48)) (u ++ (c ∷ [])) ≡ Some (m * 10 + (c - 48)))
+        → cond t (digits_after (a * 10 + (x - 48)) u) None ≡ Some m → cond t (digits_after (a * 10 + (x - 48)) (u ++ (c ∷ []))) None ≡ Some (m * 10 + (c - 48))
     go true f q = f q
     go false f q = let z : ◌≡◌ {A = ℕ} 0 1 = cc in absurd (omega arith)
 
 -- the digits of a number say it
-pub after_digits : (f n : ℕ) → n < 10 ^ f → digits_after 0 (digits_in f n) ≡ some n
+pub after_digits : (f n : ℕ) → n < 10 ^ f → digits_after 0 (digits_in f n) ≡ Some n
 unfolding digits_after digits_in
-after_digits zero n h = let z : 0 ≡ n = omega arith in ap some z
+after_digits zero n h = let z : 0 ≡ n = omega arith in ap Some z
 after_digits (suc f) n h = go (λ q. after_digits f (n / 10) q) (ltb n 10) refl
   where
-    go : (n / 10 < 10 ^ f → digits_after 0 (digits_in f (n / 10)) ≡ some (n / 10)) → (t : Bool) → ltb n 10 ≡ t → digits_after 0 (digits_in (suc f) n) ≡ some n
+    go : (n / 10 < 10 ^ f → digits_after 0 (digits_in f (n / 10)) ≡ Some (n / 10)) → (t : Bool) → ltb n 10 ≡ t → digits_after 0 (digits_in (suc f) n) ≡ Some n
     go same true e =
         let k = ltb-true n 10 e in
         let z : 0 * 10 + (48 + n - 48) ≡ n = omega arith in
-        ap (digits_after 0) (digits_one f n k) ∙ simp (digit_yes (48 + n) (omega arith) (omega arith)) (ap some z)
+        ap (digits_after 0) (digits_one f n k) ∙ simp (digit_yes (48 + n) (omega arith) (omega arith)) (ap Some z)
     go same false e =
         let k = ltb-false n 10 e in
         let a : n < 10 ^ f * 10 = subst (λ m. n < m) (pow-suc 10 f) h in
         let z : n / 10 * 10 + (48 + n % 10 - 48) ≡ n = omega arith in
         ap (digits_after 0) (digits_more f n k)
-        ∙ (after_snoc (digits_in f (n / 10)) 0 (n / 10) (48 + n % 10) (same (omega arith)) (omega arith) (omega arith) ∙ ap some z)
+        ∙ (after_snoc (digits_in f (n / 10)) 0 (n / 10) (48 + n % 10) (same (omega arith)) (omega arith) (omega arith) ∙ ap Some z)
 
 head_append : (u v : List ℕ) → 0 < length u → get_or (u ++ v) 0 0 ≡ get_or u 0 0
 head_append [] v h = absurd (omega arith)
@@ -88,7 +88,7 @@ digits_lead (suc f) n h k = go (λ p q. digits_lead f (n / 10) p q) (ltb n 10) r
         rw o (omega (arith, length-append (digits_in f (n / 10)) ((48 + n % 10) ∷ [])), omega (arith, w, r.1))
 
 -- a number written is read back
-pub number_read_back : (n : ℕ) → n < numbers → number_said (decimal_text n) ≡ some n
+pub number_read_back : (n : ℕ) → n < numbers → number_said (decimal_text n) ≡ Some n
 unfolding decimal_text number_said digits_in digits_after is_digit fitting
 number_read_back zero h = refl
 number_read_back (suc m) h =
@@ -111,13 +111,13 @@ unfolding is_digit
 digit_range c e = (leb-true 48 c (and_left (leb 48 c) (leb c 57) e), leb-true c 57 (and_right (leb 48 c) (leb c 57) e))
 
 -- digits behind those of a number
-pub after_said : (w : List ℕ) (a n : ℕ) → 0 < a → digits_after a w ≡ some n → n < 10 ^ 20 → digits_in 20 a ++ w ≡ digits_in 20 n
+pub after_said : (w : List ℕ) (a n : ℕ) → 0 < a → digits_after a w ≡ Some n → n < 10 ^ 20 → digits_in 20 a ++ w ≡ digits_in 20 n
 unfolding digits_after
 after_said [] a n p e h = let z : a ≡ n = cc in append-nil (digits_in 20 a) ∙ ap (digits_in 20) z
 after_said (c ∷ w) a n p e h = go (is_digit c) refl (λ q r. after_said w (a * 10 + (c - 48)) n q r h) e
   where
-    go : (t : Bool) → is_digit c ≡ t → (0 < a * 10 + (c - 48) → digits_after (a * 10 + (c - 48)) w ≡ some n → digits_in 20 (a * 10 + (c - 48)) ++ w ≡ digits_in 20 n)
-        → cond t (digits_after (a * 10 + (c - 48)) w) none ≡ some n → digits_in 20 a ++ (c ∷ w) ≡ digits_in 20 n
+    go : (t : Bool) → is_digit c ≡ t → (0 < a * 10 + (c - 48) → digits_after (a * 10 + (c - 48)) w ≡ Some n → digits_in 20 (a * 10 + (c - 48)) ++ w ≡ digits_in 20 n)
+        → cond t (digits_after (a * 10 + (c - 48)) w) None ≡ Some n → digits_in 20 a ++ (c ∷ w) ≡ digits_in 20 n
     go true d same q =
         let r = digit_range c d in
         let g = after_grows w (a * 10 + (c - 48)) n q in
@@ -129,22 +129,22 @@ after_said (c ∷ w) a n p e h = go (is_digit c) refl (λ q r. after_said w (a *
         ∙ same (omega arith) q)
     go false d same q = let z : ◌≡◌ {A = ℕ} 0 1 = cc in absurd (omega arith)
 
-fits_said : (o : Option ℕ) (n : ℕ) → fitting o ≡ some n → (o ≡ some n) × (n < numbers)
+fits_said : (o : Option ℕ) (n : ℕ) → fitting o ≡ Some n → (o ≡ Some n) × (n < numbers)
 unfolding fitting
-fits_said none n e = let z : ◌≡◌ {A = ℕ} 0 1 = cc in absurd (omega arith)
-fits_said (some m) n e = go (ltb m numbers) refl e
+fits_said None n e = let z : ◌≡◌ {A = ℕ} 0 1 = cc in absurd (omega arith)
+fits_said (Some m) n e = go (ltb m numbers) refl e
   where
-    go : (t : Bool) → ltb m numbers ≡ t → cond t (some m) none ≡ some n → (some m ≡ some n) × (n < numbers)
+    go : (t : Bool) → ltb m numbers ≡ t → cond t (Some m) None ≡ Some n → (Some m ≡ Some n) × (n < numbers)
     go true q p = let z : m ≡ n = cc in let k = ltb-true m numbers q in (p, omega arith)
     go false q p = let z : ◌≡◌ {A = ℕ} 0 1 = cc in absurd (omega arith)
 
 -- a word that says a number is that number written
-pub number_as_written : (w : List ℕ) (n : ℕ) → number_said w ≡ some n → w ≡ decimal_text n
+pub number_as_written : (w : List ℕ) (n : ℕ) → number_said w ≡ Some n → w ≡ decimal_text n
 unfolding number_said decimal_text digits_after
 number_as_written [] n e = let z : ◌≡◌ {A = ℕ} 0 1 = cc in absurd (omega arith)
 number_as_written (c ∷ w) n e = go (eqb c 48 && ltb 0 (length w)) refl e
   where
-    said : (t : Bool) → is_digit c ≡ t → (eqb c 48 && ltb 0 (length w)) ≡ false → cond t (digits_after (0 * 10 + (c - 48)) w) none ≡ some n → n < numbers → c ∷ w ≡ digits_in 20 n
+    said : (t : Bool) → is_digit c ≡ t → (eqb c 48 && ltb 0 (length w)) ≡ false → cond t (digits_after (0 * 10 + (c - 48)) w) None ≡ Some n → n < numbers → c ∷ w ≡ digits_in 20 n
     said false d u q h = let z : ◌≡◌ {A = ℕ} 0 1 = cc in absurd (omega arith)
     said true d u q h = zero_or (eqb c 48) refl
       where
@@ -154,7 +154,7 @@ number_as_written (c ∷ w) n e = go (eqb c 48 && ltb 0 (length w)) refl e
         one : digits_in 20 (c - 48) ≡ c ∷ []
         one = let z : 48 + (c - 48) ≡ c = omega (arith, r) in digits_one 19 (c - 48) (omega (arith, r)) ∙ ap (λ x. x ∷ []) z
 
-        alone : (v : List ℕ) → length v ≤ 0 → digits_after (0 * 10 + (c - 48)) v ≡ some n → c ≡ 48 → c ∷ v ≡ digits_in 20 n
+        alone : (v : List ℕ) → length v ≤ 0 → digits_after (0 * 10 + (c - 48)) v ≡ Some n → c ≡ 48 → c ∷ v ≡ digits_in 20 n
         alone [] k p z = let x : 0 * 10 + (c - 48) ≡ n = cc in let y : c - 48 ≡ n = omega arith in sym one ∙ ap (digits_in 20) y
         alone (x ∷ v) k p z = absurd (omega arith)
 
@@ -167,6 +167,6 @@ number_as_written (c ∷ w) n e = go (eqb c 48 && ltb 0 (length w)) refl e
             let y : c - 48 ≡ 0 * 10 + (c - 48) = omega arith in
             ap (λ l. l ++ w) (sym one) ∙ after_said w (c - 48) n p (ap (λ m. digits_after m w) y ∙ q) k
 
-    go : (t : Bool) → (eqb c 48 && ltb 0 (length w)) ≡ t → cond t none (fitting (digits_after 0 (c ∷ w))) ≡ some n → c ∷ w ≡ digits_in 20 n
+    go : (t : Bool) → (eqb c 48 && ltb 0 (length w)) ≡ t → cond t None (fitting (digits_after 0 (c ∷ w))) ≡ Some n → c ∷ w ≡ digits_in 20 n
     go true u q = let z : ◌≡◌ {A = ℕ} 0 1 = cc in absurd (omega arith)
     go false u q = let f = fits_said (digits_after 0 (c ∷ w)) n q in said (is_digit c) refl u f.0 f.1

@@ -10,6 +10,7 @@ fn put_at_end(digits: &mut [u8; 20], n: u64) -> usize
     ensures within { result ≤ 20 }
     ensures digits { drop result digits.new ≡ decimal_text n }
 {
+    // The loop goes by what is left of the number, and the place only follows it: a `for` over places would still stop by the number.
     let mut at = 19;
     let mut left = n;
     while 9 < left {

@@ -1,6 +1,6 @@
 -- Hex words: the bytes that a word says, and the text of bytes. Two lower-case digits are a byte, the high one first; - is no bytes.
 use Rattle.std.specs.Prelude.{ℕ, ◌+◌, ◌*◌, ◌-◌, ◌/◌, ◌%◌, List, [], ◌∷◌, Bool, true, cond, ◌&&◌, leb, ltb, eqb, length}
-use Rattle.std.proofs.Math.Option.{Option, none, some}
+use Rattle.std.specs.Prelude.{Option, None, Some}
 use Rattle.wire.specs.Bytes.{same_bytes, pasted}
 
 -- the value of a hex digit; 16 where it is none
@@ -13,7 +13,7 @@ hex_digit n = cond (ltb n 10) (48 + n) (87 + n)
 
 -- the byte that two hex digits say; none where one is no digit
 unfoldable pub pair_said : ℕ → ℕ → Option ℕ
-pair_said a b = cond (ltb (hex_value a) 16 && ltb (hex_value b) 16) (some (hex_value a * 16 + hex_value b)) none
+pair_said a b = cond (ltb (hex_value a) 16 && ltb (hex_value b) 16) (Some (hex_value a * 16 + hex_value b)) None
 
 -- each is a hex digit
 unfoldable pub all_hex : List ℕ → Bool
@@ -35,22 +35,22 @@ is_pairs w = ltb 0 (length w) && (eqb (length w % 2) 0 && all_hex w)
 
 -- the bytes that a word says
 unfoldable pub bytes_said : List ℕ → Option (List ℕ)
-bytes_said w = cond (same_bytes w dash) (some []) (cond (is_pairs w) (some (pairs w)) none)
+bytes_said w = cond (same_bytes w dash) (Some []) (cond (is_pairs w) (Some (pairs w)) None)
 
 -- no more bytes than n
 unfoldable pub at_most : ℕ → Option (List ℕ) → Option (List ℕ)
-at_most n none = none
-at_most n (some l) = cond (leb (length l) n) (some l) none
+at_most n None = None
+at_most n (Some l) = cond (leb (length l) n) (Some l) None
 
 -- how many bytes
 unfoldable pub count_of : Option (List ℕ) → Option ℕ
-count_of none = none
-count_of (some l) = some (length l)
+count_of None = None
+count_of (Some l) = Some (length l)
 
 -- a buffer that bytes are put at the beginning of; as it was where there are none
 unfoldable pub holding : List ℕ → Option (List ℕ) → List ℕ
-holding s none = s
-holding s (some l) = pasted s 0 l
+holding s None = s
+holding s (Some l) = pasted s 0 l
 
 -- two digits a byte
 unfoldable pub hex_digits : List ℕ → List ℕ

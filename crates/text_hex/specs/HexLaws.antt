@@ -4,7 +4,7 @@ use Rattle.std.specs.Prelude.{◌≡◌, Bool, cond, ◌&&◌, leb, ltb, eqb, le
 use Rattle.std.proofs.Math.Path.{refl, sym, ap, ap₂}
 use Rattle.std.proofs.Common.{◌∙◌, subst, add-one, arith, take-append-drop, drop_of_length-le, drop-cons, length-take-le}
 use mathlib.Core.List.{List, [], ◌∷◌, ◌++◌, append_assoc}
-use Rattle.std.proofs.Math.Option.{Option, none, some}
+use Rattle.std.specs.Prelude.{Option, None, Some}
 use Rattle.std.proofs.Math.Bool.{true, false}
 use Rattle.std.proofs.lemmas.Bool.{false≢true}
 use borrow.Author.Tests.{eq-eqb, ne_eqb, le-leb, lt-leb, lt-ltb, le-ltb, ltb-true, ltb-false}
@@ -13,8 +13,7 @@ use Rattle.std.proofs.Math.Seq.{take-suc, take-length}
 use Rattle.wire.specs.Bytes.{same_bytes, pasted}
 use Rattle.wire.specs.ByteLaws.{pasted_fits, pasted_twice}
 use Rattle.text_hex.specs.Hex.{hex_value, hex_digit, pair_said, all_hex, pairs, dash, is_pairs, bytes_said, at_most, count_of, holding, hex_digits, hex_text}
-use Rattle.text_hex.specs.Answers.{length_of, Took}
-use Rattle.text_hex.specs.declared.Bytes.TheVariants as bytes
+use Rattle.text_hex.specs.Answers.{Took}
 
 and_false : (b : Bool) → b && false ≡ false
 and_false true = refl
@@ -60,15 +59,15 @@ digit_high n h = simp (le-ltb n 10 h)
 
 -- two digits
 module _ (a b : ℕ) where
-  pub pair_high : 15 < hex_value a → none ≡ pair_said a b
+  pub pair_high : 15 < hex_value a → None ≡ pair_said a b
   unfolding pair_said
   pair_high h = simp (le-ltb (hex_value a) 16 (omega arith))
 
-  pub pair_low : hex_value a ≤ 15 → 15 < hex_value b → none ≡ pair_said a b
+  pub pair_low : hex_value a ≤ 15 → 15 < hex_value b → None ≡ pair_said a b
   unfolding pair_said
   pair_low h k = simp (lt-ltb (hex_value a) 16 (omega arith), le-ltb (hex_value b) 16 (omega arith))
 
-  pub pair_both : hex_value a ≤ 15 → hex_value b ≤ 15 → (x : ℕ) → x ≡ hex_value a * 16 + hex_value b → some x ≡ pair_said a b
+  pub pair_both : hex_value a ≤ 15 → hex_value b ≤ 15 → (x : ℕ) → x ≡ hex_value a * 16 + hex_value b → Some x ≡ pair_said a b
   unfolding pair_said
   pair_both h k x e = rw e (simp (lt-ltb (hex_value a) 16 (omega arith), lt-ltb (hex_value b) 16 (omega arith)))
 
@@ -115,33 +114,33 @@ pairs_at (a ∷ (b ∷ w)) (suc i) h =
 
 -- what a word says: no bytes, none, or the bytes of its pairs
 module _ (w : List ℕ) (n : ℕ) where
-  pub says_dash : same_bytes w dash ≡ true → at_most n (bytes_said w) ≡ some []
+  pub says_dash : same_bytes w dash ≡ true → at_most n (bytes_said w) ≡ Some []
   unfolding bytes_said at_most
   says_dash e = simp (e, le-leb 0 n (omega arith))
 
   module _ (other : same_bytes w dash ≡ false) where
-    pub says_empty : length w ≡ 0 → at_most n (bytes_said w) ≡ none
+    pub says_empty : length w ≡ 0 → at_most n (bytes_said w) ≡ None
     unfolding bytes_said at_most is_pairs
     says_empty h = simp (other, le-ltb 0 (length w) (omega arith))
 
-    pub says_odd : 0 < length w → (length w % 2 ≡ 0 → ⊥) → at_most n (bytes_said w) ≡ none
+    pub says_odd : 0 < length w → (length w % 2 ≡ 0 → ⊥) → at_most n (bytes_said w) ≡ None
     unfolding bytes_said at_most is_pairs
     says_odd h k = simp (other, lt-ltb 0 (length w) h, ne_eqb (length w % 2) 0 k)
 
     module _ (some? : 0 < length w) (even : length w % 2 ≡ 0) where
-      pub says_wrong : all_hex w ≡ false → at_most n (bytes_said w) ≡ none
+      pub says_wrong : all_hex w ≡ false → at_most n (bytes_said w) ≡ None
       unfolding bytes_said at_most is_pairs
       says_wrong e = simp (other, lt-ltb 0 (length w) some?, eq-eqb (length w % 2) 0 even, e)
 
-      pub says_pairs : all_hex w ≡ true → length w / 2 ≤ n → at_most n (bytes_said w) ≡ some (pairs w)
+      pub says_pairs : all_hex w ≡ true → length w / 2 ≤ n → at_most n (bytes_said w) ≡ Some (pairs w)
       unfolding bytes_said at_most is_pairs
       says_pairs e h = simp (other, lt-ltb 0 (length w) some?, eq-eqb (length w % 2) 0 even, e, le-leb (length (pairs w)) n (omega (arith, length_pairs w)))
 
-      pub says_more : n < length w / 2 → at_most n (bytes_said w) ≡ none
+      pub says_more : n < length w / 2 → at_most n (bytes_said w) ≡ None
       unfolding bytes_said at_most is_pairs
       says_more h = go (all_hex w) refl
         where
-          go : (t : Bool) → all_hex w ≡ t → at_most n (bytes_said w) ≡ none
+          go : (t : Bool) → all_hex w ≡ t → at_most n (bytes_said w) ≡ None
           go true e = simp (other, lt-ltb 0 (length w) some?, eq-eqb (length w % 2) 0 even, e, lt-leb (length (pairs w)) n (omega (arith, length_pairs w)))
           go false e = says_wrong e
 
@@ -151,19 +150,19 @@ pasted_nothing s i h =
     sym (pasted_fits s i [] (omega arith) ∙ (ap (λ n. take i s ++ [] ++ drop n s) k ∙ (append_assoc (take i s) [] (drop i s) ∙ take-append-drop i s)))
 
 module _ (w s₀ : List ℕ) where
-  pub took_none : at_most (length s₀) (bytes_said w) ≡ none → Took w s₀ s₀ bytes.Wrong
+  pub took_none : at_most (length s₀) (bytes_said w) ≡ None → Took w s₀ s₀ None
   unfolding count_of holding
   took_none e = record { count = sym (ap count_of e); held = sym (ap (holding s₀) e) }
 
-  pub took_dash : same_bytes w dash ≡ true → Took w s₀ s₀ (bytes.Said 0)
+  pub took_dash : same_bytes w dash ≡ true → Took w s₀ s₀ (Some 0)
   unfolding count_of holding
   took_dash h =
       let e = says_dash w (length s₀) h in
       record { count = sym (ap count_of e); held = pasted_nothing s₀ 0 (omega arith) ∙ sym (ap (holding s₀) e) }
 
-  pub took_pairs : at_most (length s₀) (bytes_said w) ≡ some (pairs w) → (s : List ℕ) → s ≡ pasted s₀ 0 (pairs w) → Took w s₀ s (bytes.Said (length w / 2))
+  pub took_pairs : at_most (length s₀) (bytes_said w) ≡ Some (pairs w) → (s : List ℕ) → s ≡ pasted s₀ 0 (pairs w) → Took w s₀ s (Some (length w / 2))
   unfolding count_of holding
-  took_pairs e s h = record { count = ap some (sym (length_pairs w)) ∙ sym (ap count_of e); held = h ∙ sym (ap (holding s₀) e) }
+  took_pairs e s h = record { count = ap Some (sym (length_pairs w)) ∙ sym (ap count_of e); held = h ∙ sym (ap (holding s₀) e) }
 
 -- the digits of bytes: how many, and those of one byte more
 pub length_digits : (l : List ℕ) → length (hex_digits l) ≡ 2 * length l

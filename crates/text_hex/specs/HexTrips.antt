@@ -1,7 +1,7 @@
 -- Hex words and bytes are each other's: what is written is read back, and what is read was written so. Assumes nothing.
 use Rattle.std.specs.Prelude.{ℕ, zero, suc, ◌+◌, ◌*◌, ◌-◌, ◌/◌, ◌%◌, ◌≤◌, ◌<◌, ◌≡◌, refl, List, [], ◌∷◌, ◌++◌, Bool, true, false, cond, ◌&&◌, leb, ltb, eqb, length}
 use Rattle.std.proofs.Common.{sym, ◌∙◌, ap, ap₂, subst, mod-lt, div-add-mod', arith, eq-eqb, lt-ltb, le-ltb, ltb-true, ltb-false, leb-true, leb-false, eqb-true}
-use Rattle.std.proofs.Math.Option.{Option, none, some}
+use Rattle.std.specs.Prelude.{Option, None, Some}
 use Rattle.std.proofs.lemmas.Bool.{false≢true}
 use Rattle.std.proofs.Math.Arith.{digits_div, digits_mod}
 use Rattle.wire.specs.Bytes.{Bytes, same_bytes}
@@ -95,7 +95,7 @@ and_false : (b : Bool) → b && false ≡ false
 and_false true = refl
 and_false false = refl
 
-said_pairs : (w : List ℕ) → same_bytes w dash ≡ false → 0 < length w → length w % 2 ≡ 0 → all_hex w ≡ true → bytes_said w ≡ some (pairs w)
+said_pairs : (w : List ℕ) → same_bytes w dash ≡ false → 0 < length w → length w % 2 ≡ 0 → all_hex w ≡ true → bytes_said w ≡ Some (pairs w)
 unfolding bytes_said is_pairs
 said_pairs w o h k e = simp (o, lt-ltb 0 (length w) h, eq-eqb (length w % 2) 0 k, e)
 
@@ -104,28 +104,28 @@ unfolding same_bytes
 not_dash a b w = and_false (eqb a 0x2d)
 
 -- bytes written are read back
-pub bytes_read_back : (l : List ℕ) → Bytes l → bytes_said (hex_text l) ≡ some l
+pub bytes_read_back : (l : List ℕ) → Bytes l → bytes_said (hex_text l) ≡ Some l
 unfolding bytes_said hex_text hex_digits same_bytes
 bytes_read_back [] b = refl
 bytes_read_back (x ∷ l) b =
     said_pairs (hex_digits (x ∷ l)) (not_dash (hex_digit (x / 16)) (hex_digit (x % 16)) (hex_digits l)) (omega (arith, n)) (omega (arith, n)) (digits_hex (x ∷ l) b)
-    ∙ ap some (pairs_digits (x ∷ l) b)
+    ∙ ap Some (pairs_digits (x ∷ l) b)
   where
     n : length (hex_digits (x ∷ l)) ≡ 2 * suc (length l)
     n = length_digits (x ∷ l)
 
 -- a word that says bytes is those bytes written
-pub bytes_as_written : (w l : List ℕ) → bytes_said w ≡ some l → w ≡ hex_text l
+pub bytes_as_written : (w l : List ℕ) → bytes_said w ≡ Some l → w ≡ hex_text l
 unfolding bytes_said hex_text
 bytes_as_written w l e = go (same_bytes w dash) refl e
   where
-    paired : (t : Bool) → is_pairs w ≡ t → cond t (some (pairs w)) none ≡ some l → w ≡ hex_text l
+    paired : (t : Bool) → is_pairs w ≡ t → cond t (Some (pairs w)) None ≡ Some l → w ≡ hex_text l
     paired true p q =
         let z : pairs w ≡ l = cc in
         let h = pairs_parts w p in
         sym (digits_pairs w h.1 h.2) ∙ (sym (text_digits (pairs w) (omega (arith, h.0, h.1, length_pairs w))) ∙ ap hex_text z)
     paired false p q = let z : ◌≡◌ {A = ℕ} 0 1 = cc in absurd (omega arith)
 
-    go : (t : Bool) → same_bytes w dash ≡ t → cond t (some []) (cond (is_pairs w) (some (pairs w)) none) ≡ some l → w ≡ hex_text l
+    go : (t : Bool) → same_bytes w dash ≡ t → cond t (Some []) (cond (is_pairs w) (Some (pairs w)) None) ≡ Some l → w ≡ hex_text l
     go true p q = let z : [] ≡ l = cc in same_eq w dash p ∙ ap hex_text z
     go false p q = paired (is_pairs w) refl q

@@ -1,7 +1,7 @@
 // Lines of text that is read in chunks: each is collected into a lent buffer, to its newline.
 #![tactic(auto)]
 
-ghost use Rattle.std.specs.Prelude.{◌≡◌, ◌≤◌, min, length};
+ghost use Rattle.std.specs.Prelude.{◌≡◌, ◌≤◌, length};
 ghost use Rattle.text_lines.specs.Line.{longer, without_return};
 ghost use Rattle.text_lines.specs.LineLaws.{Pushed};
 ghost use Rattle.text_lines.specs.Answers.{Collects};
@@ -18,24 +18,12 @@ pub struct Collected {
     pub whole: bool,
 }
 
-// How many bytes the first n of s are.
-fn within(n: usize, s: &[u8]) -> usize
-    ensures { (result ≡ min n (length s.now)) × (result ≤ length s.now) }
-{
-    if s.len() < n {
-        return s.len();
-    }
-    n
-}
-
 // Whether a line that keeps n bytes is too long with one more.
+#[tactic(auto, using(crate::specs::LineLaws::longer_room, crate::specs::LineLaws::longer_full))]
 fn one_longer(room: usize, n: usize, long: bool) -> bool
     ensures { result ≡ longer room n long }
 {
-    if n < room {
-        return long;
-    }
-    true
+    long || room <= n
 }
 
 // Keeps one byte more, where there is room.
@@ -43,19 +31,21 @@ fn push(line: &mut [u8], n: usize, byte: u8) -> usize
     requires { n ≤ length line.old }
     ensures { Pushed line.old n byte line.new result }
 {
-    if line.len() <= n {
-        return n;
+    if n < line.len() {
+        line[n] = byte;
+        n + 1
+    } else {
+        n
     }
-    line[n] = byte;
-    n + 1
 }
 
 // Collects a chunk's bytes from a place on into a line, of which `before` bytes are kept already, to its newline or the chunk's end.
 pub fn collect(chunk: &[u8], from: usize, line: &mut [u8], before: usize, long: bool) -> Collected
     ensures { Collects chunk.now from line.old before long line.new result }
 {
+    // The place is itself a part of the answer, also where it begins past the end, so the loop counts it.
     let mut used = from;
-    let mut kept = within(before, line);
+    let mut kept = before.min(line.len());
     let mut too_long = long;
     while used < chunk.len() {
         let byte = chunk[used];
@@ -83,12 +73,9 @@ pub fn collect(chunk: &[u8], from: usize, line: &mut [u8], before: usize, long: 
 pub fn without_return(line: &[u8]) -> &[u8]
     ensures { result.now ≡ without_return line.now }
 {
-    if line.len() == 0 {
-        return line;
+    if 0 < line.len() && line[line.len() - 1] == b'\r' {
+        &line[..line.len() - 1]
+    } else {
+        line
     }
-    let last = line.len() - 1;
-    if line[last] != b'\r' {
-        return line;
-    }
-    &line[0..last]
 }

@@ -7,29 +7,19 @@ ghost use Rattle.std.specs.Prelude.{◌≡◌, ◌-◌, take, drop};
 pub fn first(s: &[u8], n: usize) -> &[u8]
     ensures { result.now ≡ take n s.now }
 {
-    if s.len() < n {
-        return s;
-    }
-    &s[0..n]
+    &s[..n.min(s.len())]
 }
 
 // The bytes of s from a place on; none where it has no more.
 pub fn from(s: &[u8], at: usize) -> &[u8]
     ensures { result.now ≡ drop at s.now }
 {
-    if s.len() < at {
-        return &s[0..0];
-    }
-    &s[at..]
+    &s[at.min(s.len())..]
 }
 
 // The bytes from a place to before another, as far as there are any.
 pub fn between(s: &[u8], at: usize, end: usize) -> &[u8]
     ensures { result.now ≡ take (end - at) (drop at s.now) }
 {
-    if end < at {
-        return &s[0..0];
-    }
-    let n = end - at;
-    first(from(s, at), n)
+    first(from(s, at), end.saturating_sub(at))
 }

@@ -8,14 +8,12 @@ ghost use Rattle.text_places.specs.Word.{place_of, word_end, word_at};
 pub fn place_of(s: &[u8], at: usize, byte: u8) -> usize
     ensures { (result ≡ place_of byte s.now at) × (at ≤ result) }
 {
-    let mut i = at;
-    while i < s.len() {
+    for i in at..s.len() {
         if s[i] == byte {
             return i;
         }
-        i += 1;
     }
-    i
+    at.max(s.len())
 }
 
 // Where the word that begins at a place ends: at a space or with the text.
@@ -29,6 +27,5 @@ pub fn word_end(s: &[u8], at: usize) -> usize
 pub fn word(s: &[u8], at: usize) -> &[u8]
     ensures { result.now ≡ word_at s.now at }
 {
-    let end = word_end(s, at);
-    text_parts::between(s, at, end)
+    text_parts::between(s, at, word_end(s, at))
 }

@@ -7,12 +7,10 @@ ghost use Rattle.text_put.specs.Answers.{Put};
 pub fn put(out: &mut [u8], at: usize, text: &[u8]) -> usize
     ensures { Put out.old at text.now out.new result }
 {
-    if out.len() < at {
-        return at;
+    if at <= out.len() && text.len() <= out.len() - at {
+        wire::copy(out, at, text);
+        at + text.len()
+    } else {
+        at
     }
-    if out.len() - at < text.len() {
-        return at;
-    }
-    wire::copy(out, at, text);
-    at + text.len()
 }

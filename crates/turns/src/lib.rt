@@ -1,8 +1,7 @@
 // What is done with a segment in each phase, and what is replied there. Total for every phase and every door.
 #![tactic(auto)]
 
-ghost use Rattle.std.specs.Prelude.{◌≡◌, []};
-ghost use Rattle.door.specs.Door.{offering, crossed, answering};
+ghost use Rattle.std.specs.Prelude.{◌≡◌, [], Ok};
 ghost use Rattle.door.specs.Receive.{turn, replies};
 ghost use Rattle.door.specs.Answers.{phase_as, reply_of};
 ghost use Rattle.turns.specs.Turns.{turn_as};
@@ -16,70 +15,29 @@ pub enum Turn {
     Comparing { opens: bool },
     Presence,
     Unchanged,
-    OutOfTurn,
 }
 
-fn offered_turn(syn: bool, ack: bool) -> Turn
-    ensures { turn_as result ≡ turn offering syn ack }
-{
-    if syn {
-        return Turn::Judging { opens: ack };
-    }
-    Turn::OutOfTurn
-}
-
-fn crossed_turn(syn: bool, ack: bool) -> Turn
-    ensures { turn_as result ≡ turn crossed syn ack }
-{
-    if !ack {
-        return Turn::OutOfTurn;
-    }
-    if syn {
-        return Turn::Comparing { opens: true };
-    }
-    Turn::Presence
-}
-
-fn answered_turn(syn: bool, ack: bool) -> Turn
-    ensures { turn_as result ≡ turn answering syn ack }
-{
-    if syn {
-        if ack {
-            return Turn::OutOfTurn;
-        }
-        return Turn::Comparing { opens: false };
-    }
-    if ack {
-        return Turn::Presence;
-    }
-    Turn::OutOfTurn
-}
-
-pub fn turn_of(phase: Phase, syn: bool, ack: bool) -> Turn
+// What is done in a phase with a segment of these flags; none where it is out of turn.
+#[tactic(auto, unfolding(door::specs::Receive::turn))]
+pub fn turn_of(phase: Phase, syn: bool, ack: bool) -> Option<Turn>
     ensures { turn_as result ≡ turn (phase_as phase) syn ack }
 {
-    match phase {
-        Phase::Idle => Turn::OutOfTurn,
-        Phase::Offered => offered_turn(syn, ack),
-        Phase::Crossed => crossed_turn(syn, ack),
-        Phase::Answered => answered_turn(syn, ack),
-        Phase::Open => Turn::Unchanged,
-        Phase::Plain => Turn::Unchanged,
+    match (phase, syn, ack) {
+        (Phase::Offered, true, opens) => Some(Turn::Judging { opens }),
+        (Phase::Crossed, true, true) => Some(Turn::Comparing { opens: true }),
+        (Phase::Answered, true, false) => Some(Turn::Comparing { opens: false }),
+        (Phase::Crossed, false, true) | (Phase::Answered, false, true) => Some(Turn::Presence),
+        (Phase::Open | Phase::Plain, _, _) => Some(Turn::Unchanged),
+        _ => None,
     }
 }
 
 // The phase that the door is in; in Plain the reason.
 pub fn reply_now(door: Door) -> Reply
-    ensures { reply_of result [] ≡ replies door }
+    ensures { reply_of (Ok result) [] ≡ replies door }
 {
-    let cause = door.cause;
-    let phase = door_data::phase_of(door.phase);
-    match phase {
-        Phase::Plain => Reply::Plain(cause),
-        Phase::Idle => Reply::Now(Phase::Idle),
-        Phase::Offered => Reply::Now(Phase::Offered),
-        Phase::Crossed => Reply::Now(Phase::Crossed),
-        Phase::Answered => Reply::Now(Phase::Answered),
-        Phase::Open => Reply::Now(Phase::Open),
+    match door_data::phase_of(door.phase) {
+        Phase::Plain => Reply::Plain(door.cause),
+        phase => Reply::Now(phase),
     }
 }

@@ -12,6 +12,7 @@ pub const ROWS: usize = 192;
 pub const WORDS: usize = ROWS / 32;
 
 // A door in the unit: its own data, and the numbers of the rows that it holds, oldest first.
+// A count beside a list of fixed length: any bytes that a host lends are a door (`position_in`), and a count above the most reads as the most (`count_of`).
 #[repr(C)]
 #[derive(Clone, Copy)]
 pub struct Position {

@@ -24,20 +24,26 @@ pub fn answer(
     teps: &[u8],
     nonce: &[u8],
     out: &mut [u8],
-) -> Reply
+) -> Result<Reply, Refusal>
     ensures { (step_of result out.new (unit_in marks.new rows.new doors.new) ≡ step (unit_in marks.old rows.old doors.old) (on door (answer area.now aware mandatory teps.now nonce.now out.old))) × DoorsKept door doors.old doors.new }
 {
     if DOORS <= door {
-        return Reply::Refused(Refusal::NoDoor);
+        return Err(Refusal::NoDoor);
     }
     let position = pool_doors::position_at(doors, door);
-    let passive = pool_views::view_of(rows, position);
-    let told = answering::answer(passive, area, aware, mandatory, teps, nonce, out);
+    let view = pool_views::view_of(rows, position);
+    let opened = answering::answer(view, area, aware, mandatory, teps, nonce, out)?;
     let zeros = door_values::no_session();
-    let change = told.change;
-    let after = told.door;
     pool_effects::enacted(
-        marks, rows, doors, door, position, ROWS, after, change, zeros,
+        marks,
+        rows,
+        doors,
+        door,
+        position,
+        ROWS,
+        opened.door,
+        opened.change,
+        zeros,
     );
-    told.reply
+    Ok(opened.reply)
 }

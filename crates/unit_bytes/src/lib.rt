@@ -1,7 +1,8 @@
 // The unit's content in arrays of bytes that a host lends: where all stands, and a row's bytes, read and written. Any bytes are a unit.
 #![tactic(auto)]
 
-ghost use Rattle.std.specs.Prelude.{◌≡◌, length, ◌++◌};
+ghost use Rattle.std.specs.Prelude.{◌≡◌, ◌+◌, ◌≤◌, length, ◌++◌};
+ghost use Rattle.wire.specs.Bytes.{bytes_from};
 ghost use Rattle.unit_bytes.specs.Content.{record_in, row_of};
 
 use eno::SessionRecord;
@@ -36,19 +37,27 @@ pub const RESUMED: usize = 7;
 
 pub const HELD: usize = 10;
 
+// The N bytes from place `at` on; a byte past the end reads as 0.
+#[tactic(auto, using(wire_reader::proofs::Padded::padded))]
+pub fn part_at<const N: usize>(bytes: &[u8], at: usize) -> [u8; N]
+    ensures { result ≡ bytes_from N bytes.now at }
+{
+    let rest = &bytes[at.min(bytes.len())..];
+    let n = N.min(rest.len());
+    let mut part = [0; N];
+    part[..n].copy_from_slice(&rest[..n]);
+    part
+}
+
 // The record of a row.
 pub fn record_of(row: [u8; ROW]) -> SessionRecord
     ensures { result ≡ record_in row }
 {
-    let mut identifier = [0u8; 18];
-    wire::copy(&mut identifier, 0, &row[ROW_IDENTIFIER..ROW_SECRET]);
-    let mut secret = [0u8; 32];
-    wire::copy(&mut secret, 0, &row[ROW_SECRET..ROW]);
     SessionRecord {
         tep: row[0],
         role: row[1],
-        identifier,
-        secret,
+        identifier: part_at(&row, ROW_IDENTIFIER),
+        secret: part_at(&row, ROW_SECRET),
     }
 }
 
@@ -67,8 +76,9 @@ fn row_with(head: [u8; 2], identifier: [u8; 18], secret: [u8; 32]) -> [u8; ROW]
 pub fn row_of(session: SessionRecord) -> [u8; ROW]
     ensures { (result ≡ row_of session) × (record_in result ≡ session) }
 {
-    let head = [session.tep, session.role];
-    let identifier = session.identifier;
-    let secret = session.secret;
-    row_with(head, identifier, secret)
+    row_with(
+        [session.tep, session.role],
+        session.identifier,
+        session.secret,
+    )
 }

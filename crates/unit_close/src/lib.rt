@@ -18,21 +18,17 @@ pub fn close(
     rows: &[[u8; ROW]; ROWS],
     doors: &mut [[u8; PLACE]; DOORS],
     door: usize,
-) -> Reply
+) -> Result<Reply, Refusal>
     ensures { (step_of result [] (unit_in marks.now rows.now doors.new) ≡ step (unit_in marks.now rows.now doors.old) (on door (close))) × DoorsKept door doors.old doors.new }
 {
     if DOORS <= door {
-        return Reply::Refused(Refusal::NoDoor);
+        return Err(Refusal::NoDoor);
     }
     let position = pool_doors::position_at(doors, door);
-    let closed = connection_close::close();
-    let after = closed.door;
-    let numbers = position.rows;
-    let next = Position {
-        door: after,
-        count: position.count,
-        rows: numbers,
+    let after = Position {
+        door: connection_close::close(),
+        ..position
     };
-    pool_doors::put_door(doors, door, next);
-    closed.reply
+    pool_doors::put_door(doors, door, after);
+    Ok(Reply::Done)
 }

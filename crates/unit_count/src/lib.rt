@@ -17,13 +17,13 @@ pub fn count(
     rows: &[[u8; ROW]; ROWS],
     doors: &[[u8; PLACE]; DOORS],
     door: usize,
-) -> Reply
+) -> Result<Reply, Refusal>
     ensures { step_of result [] (unit_in marks.now rows.now doors.now) ≡ step (unit_in marks.now rows.now doors.now) (on door (count)) }
 {
     if DOORS <= door {
-        return Reply::Refused(Refusal::NoDoor);
+        return Err(Refusal::NoDoor);
     }
     let position = pool_doors::position_at(doors, door);
-    let holder = pool_views::view_of(rows, position);
-    records::count(holder)
+    let view = pool_views::view_of(rows, position);
+    Ok(records::count(view))
 }

@@ -8,7 +8,7 @@ ghost use Rattle.unit_bytes.specs.Content.{unit_in};
 ghost use Rattle.pool.specs.Placed.{DoorsKept};
 ghost use Rattle.unit_step.specs.Steps.{step_of};
 
-use door::{Refusal, Reply};
+use door::{Change, Refusal, Reply};
 use unit::{DOORS, ROWS, WORDS};
 use unit_bytes::{PLACE, ROW};
 
@@ -20,20 +20,19 @@ pub fn forget(
     door: usize,
     tep: u8,
     identifier: &[u8],
-) -> Reply
+) -> Result<Reply, Refusal>
     ensures { (step_of result [] (unit_in marks.new rows.new doors.new) ≡ step (unit_in marks.old rows.old doors.old) (on door (forget tep identifier.now))) × DoorsKept door doors.old doors.new }
 {
     if DOORS <= door {
-        return Reply::Refused(Refusal::NoDoor);
+        return Err(Refusal::NoDoor);
     }
     let position = pool_doors::position_at(doors, door);
     let view = pool_views::view_of(rows, position);
-    let told = records_forget::forget(view, tep, identifier);
-    let before = view.door;
-    let change = told.change;
+    let place = records_forget::forget(view, tep, identifier)?;
+    let removal = Change::Remove(place);
     let zeros = door_values::no_session();
     pool_effects::enacted(
-        marks, rows, doors, door, position, ROWS, before, change, zeros,
+        marks, rows, doors, door, position, ROWS, view.door, removal, zeros,
     );
-    told.reply
+    Ok(Reply::Done)
 }

@@ -25,20 +25,26 @@ pub fn offer(
     resume: bool,
     nonce: &[u8],
     out: &mut [u8],
-) -> Reply
+) -> Result<Reply, Refusal>
     ensures { (step_of result out.new (unit_in marks.new rows.new doors.new) ≡ step (unit_in marks.old rows.old doors.old) (on door (offer b aware mandatory teps.now resume nonce.now out.old))) × DoorsKept door doors.old doors.new }
 {
     if DOORS <= door {
-        return Reply::Refused(Refusal::NoDoor);
+        return Err(Refusal::NoDoor);
     }
     let position = pool_doors::position_at(doors, door);
-    let active = pool_views::view_of(rows, position);
-    let told = offering::offer(active, b, aware, mandatory, teps, resume, nonce, out);
+    let view = pool_views::view_of(rows, position);
+    let opened = offering::offer(view, b, aware, mandatory, teps, resume, nonce, out)?;
     let zeros = door_values::no_session();
-    let change = told.change;
-    let after = told.door;
     pool_effects::enacted(
-        marks, rows, doors, door, position, ROWS, after, change, zeros,
+        marks,
+        rows,
+        doors,
+        door,
+        position,
+        ROWS,
+        opened.door,
+        opened.change,
+        zeros,
     );
-    told.reply
+    Ok(opened.reply)
 }

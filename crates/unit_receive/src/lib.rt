@@ -21,21 +21,18 @@ pub fn receive(
     syn: bool,
     ack: bool,
     area: &[u8],
-) -> Reply
+) -> Result<Reply, Refusal>
     ensures { (step_of result [] (unit_in marks.now rows.now doors.new) ≡ step (unit_in marks.now rows.now doors.old) (on door (receive syn ack area.now))) × DoorsKept door doors.old doors.new }
 {
     if DOORS <= door {
-        return Reply::Refused(Refusal::NoDoor);
+        return Err(Refusal::NoDoor);
     }
     let position = pool_doors::position_at(doors, door);
-    let told = segments::receive(position.door, syn, ack, area);
-    let after = told.door;
-    let numbers = position.rows;
-    let next = Position {
-        door: after,
-        count: position.count,
-        rows: numbers,
+    let received = segments::receive(position.door, syn, ack, area)?;
+    let after = Position {
+        door: received.door,
+        ..position
     };
-    pool_doors::put_door(doors, door, next);
-    told.reply
+    pool_doors::put_door(doors, door, after);
+    Ok(received.reply)
 }

@@ -18,11 +18,11 @@ pub fn resend(
     doors: &[[u8; PLACE]; DOORS],
     door: usize,
     out: &mut [u8],
-) -> Reply
+) -> Result<Reply, Refusal>
     ensures { step_of result out.new (unit_in marks.now rows.now doors.now) ≡ step (unit_in marks.now rows.now doors.now) (on door (resend out.old)) }
 {
     if DOORS <= door {
-        return Reply::Refused(Refusal::NoDoor);
+        return Err(Refusal::NoDoor);
     }
     let position = pool_doors::position_at(doors, door);
     connection_resend::resend(position.door, out)

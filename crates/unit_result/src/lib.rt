@@ -2,16 +2,15 @@
 #![tactic(auto)]
 
 ghost use Rattle.std.specs.Prelude.{◌≡◌};
-ghost use Rattle.door.specs.Answers.{secret_beside};
+ghost use Rattle.door.specs.Answers.{result_secret, secret_beside};
 ghost use Rattle.door.specs.Calls.{result as ask_result};
 ghost use Rattle.unit.specs.Run.{on, step};
 ghost use Rattle.unit_bytes.specs.Content.{unit_in};
 ghost use Rattle.unit_step.specs.Steps.{result_of};
 
-use door::{Refusal, Reply};
+use door::{Refusal, Resulted};
 use unit::{DOORS, ROWS, WORDS};
 use unit_bytes::{PLACE, ROW};
-use unit_step::Resulted;
 
 // What the connection is: encrypted, with its transcript, or plain.
 pub fn result(
@@ -20,18 +19,12 @@ pub fn result(
     doors: &[[u8; PLACE]; DOORS],
     door: usize,
     out: &mut [u8],
-) -> Resulted
-    ensures { (result_of result out.new (unit_in marks.now rows.now doors.now) ≡ step (unit_in marks.now rows.now doors.now) (on door (ask_result out.old))) × (result.secret ≡ secret_beside (step (unit_in marks.now rows.now doors.now) (on door (ask_result out.old))).told.reply) }
+) -> Result<Resulted, Refusal>
+    ensures { (result_of result out.new (unit_in marks.now rows.now doors.now) ≡ step (unit_in marks.now rows.now doors.now) (on door (ask_result out.old))) × (result_secret result ≡ secret_beside (step (unit_in marks.now rows.now doors.now) (on door (ask_result out.old))).told.reply) }
 {
     if DOORS <= door {
-        return Resulted {
-            reply: Reply::Refused(Refusal::NoDoor),
-            secret: [0u8; 32],
-        };
+        return Err(Refusal::NoDoor);
     }
     let position = pool_doors::position_at(doors, door);
-    let told = connection_result::result(position.door, out);
-    let reply = told.reply;
-    let secret = told.secret;
-    Resulted { reply, secret }
+    connection_result::result(position.door, out)
 }

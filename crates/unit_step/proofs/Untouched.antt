@@ -1,14 +1,16 @@
 -- What a call leaves untouched of the unit's memory, byte by byte: for any content of the arrays' sizes, of a call that was carried out as its contract says.
-use Rattle.std.specs.Prelude.{ℕ, suc, ◌<◌, ◌≡◌, ◌≢◌, List, [], ◌∷◌, ◌++◌, length, get_or, replicate}
+use Rattle.std.specs.Prelude.{ℕ, suc, ◌<◌, ◌≡◌, ◌≢◌, List, [], ◌∷◌, ◌++◌, length, get_or, replicate, Result}
 use Rattle.std.proofs.Common.{sym, ◌∙◌, ap, subst, arith}
 use Rattle.std.proofs.Math.Nat.{suc_inj}
 use Rattle.std.proofs.Math.Decide.{ℕ_discrete}
 use Rattle.std.proofs.lemmas.List.{length-replicate, get_or-replicate}
 use Rattle.door.specs.Door.{no_session}
 use Rattle.door.specs.Outcome.{Reply, refused}
-use Rattle.door.specs.Answers.{reply_of}
+use Rattle.door.specs.Answers.{reply_of, result_reply}
 use Rattle.door.specs.Calls.{Ask}
+use Rattle.door.specs.declared.Refusal.{Refusal}
 use Rattle.door.specs.declared.Reply as code
+use Rattle.door.specs.declared.Resulted.{Resulted}
 use Rattle.unit.specs.Numbers.{doors_n, rows_n, words_n}
 use Rattle.unit.specs.Unit.{empty_unit, position_at, mine}
 use Rattle.unit.specs.Run.{Call, on, Step, step, after}
@@ -34,20 +36,19 @@ use Rattle.pool.proofs.EveryByte.{every_byte}
 use Rattle.unit_step.specs.Steps.{step_of, result_of}
 use Rattle.unit_step.specs.StepRows.{OneRow, none, taken, freed, Looks}
 use Rattle.unit_step.proofs.StepRows.{step_rows, looks_leave_the_unit}
-use Rattle.unit_step.specs.declared.Resulted.{Resulted}
 use Rattle.unit_step.specs.Untouched.{CarriedOut, RowKept, OthersKept, Reached, erased, called}
 
 -- the contracts give it: of a call that changes the unit, of resend and count, of result
-pub call_carried : (r : code.Reply) (lent marks marks' : List ℕ) (rows rows' doors doors' : List (List ℕ)) (d : ℕ) (a : Ask)
+pub call_carried : (r : Result code.Reply Refusal) (lent marks marks' : List ℕ) (rows rows' doors doors' : List (List ℕ)) (d : ℕ) (a : Ask)
     → (step_of r lent (unit_in marks' rows' doors') ≡ step (unit_in marks rows doors) (on d a)) × DoorsKept d doors doors' → CarriedOut d a (reply_of r []) lent marks marks' rows rows' doors doors'
 call_carried r lent marks marks' rows rows' doors doors' d a c = record { is_step = c.0; doors_kept = c.1 }
 
-pub look_carried : (r : code.Reply) (lent marks : List ℕ) (rows doors : List (List ℕ)) (d : ℕ) (a : Ask)
+pub look_carried : (r : Result code.Reply Refusal) (lent marks : List ℕ) (rows doors : List (List ℕ)) (d : ℕ) (a : Ask)
     → step_of r lent (unit_in marks rows doors) ≡ step (unit_in marks rows doors) (on d a) → CarriedOut d a (reply_of r []) lent marks marks rows rows doors doors
 look_carried r lent marks rows doors d a c = record { is_step = c; doors_kept = doors_same d doors }
 
-pub result_carried : (r : Resulted) (lent marks : List ℕ) (rows doors : List (List ℕ)) (d : ℕ) (a : Ask)
-    → result_of r lent (unit_in marks rows doors) ≡ step (unit_in marks rows doors) (on d a) → CarriedOut d a (reply_of r.reply r.secret) lent marks marks rows rows doors doors
+pub result_carried : (r : Result Resulted Refusal) (lent marks : List ℕ) (rows doors : List (List ℕ)) (d : ℕ) (a : Ask)
+    → result_of r lent (unit_in marks rows doors) ≡ step (unit_in marks rows doors) (on d a) → CarriedOut d a (result_reply r) lent marks marks rows rows doors doors
 result_carried r lent marks rows doors d a c = record { is_step = c; doors_kept = doors_same d doors }
 
 -- one call, for any content; that the arrays have the unit's sizes is what their types say

@@ -1,5 +1,5 @@
 -- A call in code on a door in its place is a step of the unit: for calls that look at the door's own data alone, and for calls on its records.
-use Rattle.std.specs.Prelude.{◌≡◌, refl, true, false, ℕ, ◌<◌, length}
+use Rattle.std.specs.Prelude.{◌≡◌, refl, Bool, true, false, ℕ, ◌<◌, length}
 use Rattle.std.proofs.Math.Path.{sym, ap}
 use Rattle.std.proofs.Common.{◌∙◌, subst, arith}
 use Rattle.std.proofs.lemmas.Bool.{false≢true}
@@ -90,3 +90,8 @@ module _ (marks : List ℕ) (rows doors : List (List ℕ)) (d : ℕ) (ours : d <
   pub step_counted : (a : Ask) (x : Reply) (lent : List ℕ) (v : Seen) → v ≡ seen_in rows p → outcome_as x lent v.door keep ≡ outcome (is_free (unit_in marks rows doors)) v a
       → step_as x lent (unit_in marks rows doors) ≡ step (unit_in marks rows doors) (on d a)
   step_counted a x lent v sees e = step_seen (unit_in marks rows doors) d ours a x lent v (sees ∙ seen_records) e
+
+  -- a call that is told whether a row is free, and changes nothing
+  pub step_untaken : (a : Ask) (x : Reply) (lent : List ℕ) (v : Seen) (i : ℕ) → v ≡ seen_in rows p → i ≡ first_free (marks_in marks) → length marks ≡ words_n
+      → outcome_as x lent v.door keep ≡ outcome (ltb i rows_n) v a → step_as x lent (unit_in marks rows doors) ≡ step (unit_in marks rows doors) (on d a)
+  step_untaken a x lent v i sees lowest n e = step_counted a x lent v sees (e ∙ ap (λ (b : Bool). outcome b v a) (free_in i lowest n))

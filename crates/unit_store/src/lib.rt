@@ -8,7 +8,7 @@ ghost use Rattle.unit_bytes.specs.Content.{unit_in};
 ghost use Rattle.pool.specs.Placed.{DoorsKept};
 ghost use Rattle.unit_step.specs.Steps.{step_of};
 
-use door::{Refusal, Reply};
+use door::{Change, Refusal, Reply};
 use unit::{DOORS, ROWS, WORDS};
 use unit_bytes::{PLACE, ROW};
 
@@ -22,23 +22,27 @@ pub fn store(
     role: u8,
     identifier: &[u8],
     secret: &[u8],
-) -> Reply
+) -> Result<Reply, Refusal>
     ensures { (step_of result [] (unit_in marks.new rows.new doors.new) ≡ step (unit_in marks.old rows.old doors.old) (on door (store tep role identifier.now secret.now))) × DoorsKept door doors.old doors.new }
 {
     if DOORS <= door {
-        return Reply::Refused(Refusal::NoDoor);
+        return Err(Refusal::NoDoor);
     }
     let position = pool_doors::position_at(doors, door);
     let view = pool_views::view_of(rows, position);
-    let words = *marks;
-    let row = marks::lowest_unmarked(words);
+    let row = marks::lowest_unmarked(*marks);
     let free = row < ROWS;
-    let told = records_store::store(view, free, tep, role, identifier, secret);
-    let before = view.door;
-    let change = told.change;
-    let added = told.added;
+    let added = records_store::store(view, free, tep, role, identifier, secret)?;
     pool_effects::enacted(
-        marks, rows, doors, door, position, row, before, change, added,
+        marks,
+        rows,
+        doors,
+        door,
+        position,
+        row,
+        view.door,
+        Change::Add,
+        added,
     );
-    told.reply
+    Ok(Reply::Done)
 }

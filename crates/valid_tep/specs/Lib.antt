@@ -1,3 +1,2 @@
 -- How the last valid TEP is found.
 pub mod Best
-pub mod Telling

@@ -4,6 +4,7 @@ use mathlib.Core.Path.{◌≡◌, refl, sym, ◌∙◌, ap, ap₂}
 use mathlib.Core.List.{List}
 use mathlib.Core.Bool.{Bool}
 use mathlib.Core.Option.{Option}
+use Rattle.std.specs.Prelude as code
 use native.Mathlib.Omega.{arith}
 use Rattle.eno.specs.Judge.{Way, of_a, of_b}
 use Rattle.eno.specs.declared.SessionRecord.{SessionRecord}
@@ -12,7 +13,7 @@ use Rattle.valid_tep.specs.Best.{way_of_entries, better_of, best_from, none_yet,
 use Rattle.valid_tep.specs.declared.Best.{Best}
 
 module _ (a b : List ℕ) (hand : Option SessionRecord) (own_is_b : Bool) (own peer : List Entry) where
-  pub record Chosen (best : Best) (t : ℕ) : Type 0 where
+  pub record Chosen (best : code.Option Best) (t : ℕ) : Type 0 where
     pub low : 0x21 ≤ t
     pub high : t ≤ 0x25
     pub rest : best_from (ways_of a b hand own_is_b own peer) (starts_of own_is_b own peer) (0x25 - t) t best ≡ best_of a b hand own_is_b own peer
@@ -21,8 +22,8 @@ module _ (a b : List ℕ) (hand : Option SessionRecord) (own_is_b : Bool) (own p
   unfolding best_of
   chosen_start = record { low = omega arith; high = omega arith; rest = refl }
 
-  module _ {best : Best} {t : ℕ} (c : Chosen best t) where
-    pub chosen_step : t < 0x25 → (next : Best) (w : Option Way) (ea eb : Entry) → ea ≡ of_a own_is_b (entry_at own t) (entry_at peer t)
+  module _ {best : code.Option Best} {t : ℕ} (c : Chosen best t) where
+    pub chosen_step : t < 0x25 → (next : code.Option Best) (w : Option Way) (ea eb : Entry) → ea ≡ of_a own_is_b (entry_at own t) (entry_at peer t)
         → eb ≡ of_b own_is_b (entry_at own t) (entry_at peer t) → w ≡ way_of_entries a b hand own_is_b t ea eb → next ≡ better_of best w eb.start → Chosen next (t + 1)
     unfolding best_from ways_of starts_of
     chosen_step h next w ea eb pa pb e n =

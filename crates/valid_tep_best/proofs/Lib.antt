@@ -1,3 +1,2 @@
 -- Laws that the proofs use.
-pub mod Steps
 pub mod Choosing

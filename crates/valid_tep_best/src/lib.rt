@@ -3,41 +3,28 @@
 
 ghost use Rattle.std.specs.Prelude.{◌≡◌};
 ghost use Rattle.eno.specs.Session.{in_hand};
-ghost use Rattle.eno.specs.Judge.{of_a, of_b};
-ghost use Rattle.valid_tep.specs.Best.{way_as, is_later, resumed_by, best_of};
+ghost use Rattle.eno.specs.Way.{way_as};
+ghost use Rattle.valid_tep.specs.Best.{better_of, best_of};
 
-use eno::InHand;
+use eno::{InHand, Way};
+use judgement::{of_a, of_b};
 use suboptions::Entry;
-use valid_tep::{Best, Validity};
+use valid_tep::Best;
 
-fn of_b(own_is_b: bool, own: Entry, peer: Entry) -> Entry
-    ensures { result ≡ of_b own_is_b own peer }
+// The best so far, after one more TEP: valid in a way, if it is, with its data from `start` on.
+#[tactic(auto, unfolding(valid_tep::specs::Best::better_of, valid_tep::specs::Best::is_later, valid_tep::specs::Best::resumed_by))]
+fn better_of(best: Option<Best>, way: Option<Way>, start: usize) -> Option<Best>
+    ensures { result ≡ better_of best (way_as way) start }
 {
-    if own_is_b { own } else { peer }
-}
-
-fn of_a(own_is_b: bool, own: Entry, peer: Entry) -> Entry
-    ensures { result ≡ of_a own_is_b own peer }
-{
-    if own_is_b { peer } else { own }
-}
-
-// Whether a TEP that is valid in the way v, with its data from `at` on, stands behind the one found so far, if any.
-fn is_later(found: bool, start: usize, v: Validity, at: usize) -> bool
-    ensures { result ≡ is_later found start (way_as v) at }
-{
-    match v {
-        Validity::Invalid => false,
-        _ => if found { start < at } else { true },
-    }
-}
-
-fn is_resumed(v: Validity) -> bool
-    ensures { result ≡ resumed_by (way_as v) }
-{
-    match v {
-        Validity::Resumed => true,
-        _ => false,
+    let Some(way) = way else {
+        return best;
+    };
+    match best {
+        Some(x) if start <= x.start => best,
+        _ => Some(Best {
+            start,
+            resumed: way == Way::Resumed,
+        }),
     }
 }
 
@@ -49,31 +36,16 @@ pub fn best_of<'a>(
     own_is_b: bool,
     own: [Entry; 4],
     peer: [Entry; 4],
-) -> Best
+) -> Option<Best>
     ensures { result ≡ best_of a.now b.now (in_hand hand) own_is_b own peer }
 {
-    let mut found = false;
-    let mut start = 0;
-    let mut resumed = false;
-    let mut t: u8 = 0x21;
-    while t < 0x25 {
+    let mut best = None;
+    for t in 0x21u8..0x25 {
         let k = (t - 0x21) as usize;
-        let mine = own[k];
-        let theirs = peer[k];
-        let ea = of_a(own_is_b, mine, theirs);
-        let eb = of_b(own_is_b, mine, theirs);
-        let v = valid_tep_way::way_of(a, b, hand, own_is_b, t, ea, eb);
-        let at = eb.start as usize;
-        if is_later(found, start, v, at) {
-            found = true;
-            start = at;
-            resumed = is_resumed(v);
-        }
-        t += 1;
+        let in_a = of_a(own_is_b, own[k], peer[k]);
+        let in_b = of_b(own_is_b, own[k], peer[k]);
+        let way = valid_tep_way::way_of(a, b, hand, own_is_b, t, in_a, in_b);
+        best = better_of(best, way, in_b.start as usize);
     }
-    Best {
-        found,
-        start,
-        resumed,
-    }
+    best
 }

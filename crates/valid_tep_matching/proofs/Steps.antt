@@ -1,44 +1,37 @@
 -- The cases of the record in hand, each from facts about numbers. Assumes nothing.
 use Prim.Native.Nat.{ℕ, ◌+◌, ◌-◌, ◌≤◌}
-use mathlib.Core.Path.{◌≡◌, ◌∙◌, ap}
+use mathlib.Core.Path.{◌≡◌, refl, sym}
 use mathlib.Core.List.{List}
-use mathlib.Core.Bool.{Bool, true, false}
-use mathlib.Core.Option.{none, some}
+use mathlib.Core.Bool.{Bool, true, false, beq, cond, false≢true}
 use native.Mathlib.Omega.{arith}
 use borrow.Author.Tests.{eq-eqb, ne_eqb}
-use lib.ListN.{length, take, drop, length-take, length-drop}
-use Rattle.wire.specs.Bytes.{part, same_bytes, stands_at}
+use lib.Dec.{eqb}
+use Rattle.wire.specs.Bytes.{part, same_bytes}
 use Rattle.eno.specs.Session.{in_hand}
 use Rattle.eno.specs.declared.InHand.{InHand}
+use Rattle.eno.proofs.Halves.{hand_none, hand_some}
 use Rattle.valid_tep.specs.Best.{starts_b, matches_at}
 
--- where B's half begins
-module _ (b : Bool) (role : ℕ) where
-  pub starts_own_first : b ≡ true → role ≡ 0 → (0 ≡ starts_b b role) × (0 ≤ 9)
-  unfolding starts_b
-  starts_own_first e h = (simp (e, eq-eqb _ _ h), omega arith)
+-- where B's half begins: in front where b is as it was when the record was made
+pub starts_first : (b : Bool) (role : ℕ) → beq b (eqb role 0) ≡ true → (0 ≡ starts_b b role) × (0 ≤ 9)
+unfolding starts_b
+starts_first b role e = (go b (eqb role 0) e, omega arith)
+  where
+    go : (b x : Bool) → beq b x ≡ true → ◌≡◌ {A = ℕ} 0 (cond b (cond x 0 9) (cond x 9 0))
+    go true true e = refl
+    go true false e = absurd (false≢true e)
+    go false true e = absurd (false≢true e)
+    go false false e = refl
 
-  pub starts_own_second : b ≡ true → (role ≡ 0 → ⊥) → (9 ≡ starts_b b role) × (9 ≤ 9)
-  unfolding starts_b
-  starts_own_second e h = (simp (e, ne_eqb _ _ h), omega arith)
-
-  pub starts_peer_second : b ≡ false → role ≡ 0 → (9 ≡ starts_b b role) × (9 ≤ 9)
-  unfolding starts_b
-  starts_peer_second e h = (simp (e, eq-eqb _ _ h), omega arith)
-
-  pub starts_peer_first : b ≡ false → (role ≡ 0 → ⊥) → (0 ≡ starts_b b role) × (0 ≤ 9)
-  unfolding starts_b
-  starts_peer_first e h = (simp (e, ne_eqb _ _ h), omega arith)
-
--- the record in hand
-module _ (h : InHand) where
-  pub hand_none : h.held ≡ false → in_hand h ≡ none
-  unfolding in_hand
-  hand_none e = simp e
-
-  pub hand_some : h.held ≡ true → in_hand h ≡ some h.session
-  unfolding in_hand
-  hand_some e = simp e
+pub starts_second : (b : Bool) (role : ℕ) → beq b (eqb role 0) ≡ false → (9 ≡ starts_b b role) × (9 ≤ 9)
+unfolding starts_b
+starts_second b role e = (go b (eqb role 0) e, omega arith)
+  where
+    go : (b x : Bool) → beq b x ≡ false → ◌≡◌ {A = ℕ} 9 (cond b (cond x 0 9) (cond x 9 0))
+    go true true e = absurd (false≢true (sym e))
+    go true false e = refl
+    go false true e = refl
+    go false false e = absurd (false≢true (sym e))
 
 module _ (a b : List ℕ) (h : InHand) (own_is_b : Bool) (t in_a in_b : ℕ) where
   pub match_none : h.held ≡ false → false ≡ matches_at a b (in_hand h) own_is_b t in_a in_b
@@ -59,13 +52,3 @@ module _ (a b : List ℕ) (h : InHand) (own_is_b : Bool) (t in_a in_b : ℕ) whe
       pub match_if : x ≡ true → (y : Bool) → y ≡ same_bytes (part in_b 9 b) (part from 9 h.session.identifier) → y ≡ matches_at a b (in_hand h) own_is_b t in_a in_b
       unfolding matches_at
       match_if e y ey = rw (hand_some h held) (simp (eq-eqb _ _ same, ← is, ← ex, e, ← ey))
-
--- a half of an identifier
-pub half_at : (o : List ℕ) (at : ℕ) (identifier : List ℕ) (from e : ℕ) (m : List ℕ) → from ≤ 9 → length identifier ≡ 18 → e ≡ from + 9
-    → m ≡ take (e - from) (drop from identifier) → stands_at o at m ≡ same_bytes (part at 9 o) (part from 9 identifier)
-unfolding stands_at part
-half_at o at identifier from e m h w q p =
-    let n : e - from ≡ 9 = omega arith in
-    let p' : m ≡ take 9 (drop from identifier) = p ∙ ap (λ k. take k (drop from identifier)) n in
-    let l : length m ≡ 9 = ap length p' ∙ simp (length-take, length-drop) (omega arith) in
-    ap (λ k. same_bytes (take k (drop at o)) m) l ∙ ap (same_bytes (take 9 (drop at o))) p'

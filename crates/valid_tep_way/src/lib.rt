@@ -3,13 +3,14 @@
 
 ghost use Rattle.std.specs.Prelude.{◌≡◌};
 ghost use Rattle.eno.specs.Session.{in_hand};
-ghost use Rattle.valid_tep.specs.Best.{way_as, way_of_entries};
+ghost use Rattle.eno.specs.Way.{way_as};
+ghost use Rattle.valid_tep.specs.Best.{way_of_entries};
 
-use eno::InHand;
+use eno::{InHand, Way};
+use suboption_data::{is_bad, is_fresh};
 use suboptions::Entry;
-use valid_tep::Validity;
 
-// Whether the TEP t is valid, by what A and B sent of it.
+// The way in which the TEP t is valid, if it is, by what A and B sent of it.
 pub fn way_of<'a>(
     a: &'a [u8],
     b: &'a [u8],
@@ -18,38 +19,20 @@ pub fn way_of<'a>(
     t: u8,
     of_a: Entry,
     of_b: Entry,
-) -> Validity
+) -> Option<Way>
     ensures { way_as result ≡ way_of_entries a.now b.now (in_hand hand) own_is_b t of_a of_b }
 {
-    if of_a.times != 1 {
-        return Validity::Invalid;
+    if of_a.times != 1 || of_b.times != 1 || is_bad(of_a) || is_bad(of_b) {
+        return None;
     }
-    if of_b.times != 1 {
-        return Validity::Invalid;
+    if is_fresh(of_b) {
+        return Some(Way::Fresh);
     }
-    if suboption_data::is_bad(of_a) {
-        return Validity::Invalid;
-    }
-    if suboption_data::is_bad(of_b) {
-        return Validity::Invalid;
-    }
-    if suboption_data::is_fresh(of_b) {
-        return Validity::Fresh;
-    }
-    if suboption_data::is_fresh(of_a) {
-        return Validity::Invalid;
-    }
-    if valid_tep_matching::matches(
-        a,
-        b,
-        hand,
-        own_is_b,
-        t,
-        of_a.start as usize,
-        of_b.start as usize,
-    ) {
-        Validity::Resumed
+    let in_a = of_a.start as usize;
+    let in_b = of_b.start as usize;
+    if !is_fresh(of_a) && valid_tep_matching::matches(a, b, hand, own_is_b, t, in_a, in_b) {
+        Some(Way::Resumed)
     } else {
-        Validity::Invalid
+        None
     }
 }

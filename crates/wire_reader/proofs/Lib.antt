@@ -1,2 +1,2 @@
 -- Laws that the proofs share.
-pub mod ReadLoop
+pub mod Padded

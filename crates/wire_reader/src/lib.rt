@@ -1,51 +1,36 @@
 // Big-endian numbers on the wire, read at any place of any slice.
-#![tactic(auto)]
+#![tactic(auto, unfolding(wire::specs::Bytes::bytes_from, wire::specs::Number::number, wire::specs::Number::number_after, wire::specs::Number::number_at))]
 
-ghost use Rattle.std.specs.Prelude.{◌≡◌, ◌+◌, ◌≤◌, ◌<◌, ◌^◌, get_or};
+ghost use Rattle.std.specs.Prelude.{◌≡◌};
+ghost use Rattle.wire.specs.Bytes.{bytes_from};
 ghost use Rattle.wire.specs.Number.{number_at};
 
-// The byte k places after `at`; 0 past the end.
-fn byte_at(s: &[u8], at: usize, k: usize) -> u8
-    ensures { result ≡ get_or s.now (at + k) 0 }
+// The N bytes from `at` on; a byte past the end reads as 0.
+#[tactic(auto, using(crate::proofs::Padded::padded))]
+fn bytes_from<const N: usize>(s: &[u8], at: usize) -> [u8; N]
+    ensures { result ≡ bytes_from N s.now at }
 {
-    if s.len() <= at {
-        return 0;
-    }
-    if s.len() - at <= k {
-        return 0;
-    }
-    s[at + k]
-}
-
-// The number of the w bytes from `at` on.
-fn read_number(s: &[u8], at: usize, w: usize) -> u64
-    requires { w ≤ 8 }
-    ensures { (result ≡ number_at w s.now at) × (result < 256 ^ w) }
-{
-    let mut k = 0;
-    let mut y: u64 = 0;
-    while k < w {
-        let b = wire::wide(byte_at(s, at, k)) as u64;
-        y = y * 256 + b;
-        k += 1;
-    }
-    y
+    let rest = &s[at.min(s.len())..];
+    let n = N.min(rest.len());
+    let mut bytes = [0; N];
+    bytes[..n].copy_from_slice(&rest[..n]);
+    bytes
 }
 
 pub fn read_u16(s: &[u8], at: usize) -> u16
     ensures { result ≡ number_at 2 s.now at }
 {
-    read_number(s, at, 2) as u16
+    u16::from_be_bytes(bytes_from(s, at))
 }
 
 pub fn read_u32(s: &[u8], at: usize) -> u32
     ensures { result ≡ number_at 4 s.now at }
 {
-    read_number(s, at, 4) as u32
+    u32::from_be_bytes(bytes_from(s, at))
 }
 
 pub fn read_u64(s: &[u8], at: usize) -> u64
     ensures { result ≡ number_at 8 s.now at }
 {
-    read_number(s, at, 8)
+    u64::from_be_bytes(bytes_from(s, at))
 }

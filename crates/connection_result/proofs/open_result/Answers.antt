@@ -1,16 +1,18 @@
 -- `connection_result::open_result` meets its contract.
-use native.Mathlib.Omega.{arith}
+use Rattle.door_data.specs.Laws.{own_taken, peer_taken}
 use Rattle.connection_result.proofs.Outcomes.{open_short, open_told}
 use Rattle.connection_result.proofs.open_result.Goals as goal
 
-pub returns-then-out-bytes : goal.returns-then-out-bytes
-returns-then-out-bytes c = open_short _ _ c.requires (c.well_formed.0.1.1.1.1.1.1.1.1.1.1.0.1.0.1) (c.well_formed.0.1.1.1.1.1.1.1.1.1.1.1.0.1.0.1) _ _ c.kept_length-n.ensures.0 c.kept_length-m.ensures.0 (omega arith)
-
-pub slice_bounds-write_transcript-end : goal.slice_bounds-write_transcript-end
-slice_bounds-write_transcript-end c = omega (arith, c.well_formed.0.1.1.1.1.1.1.1.1.1.1.0.1.0.1)
-
-pub slice_bounds-write_transcript-end-2 : goal.slice_bounds-write_transcript-end-2
-slice_bounds-write_transcript-end-2 c = omega (arith, c.well_formed.0.1.1.1.1.1.1.1.1.1.1.1.0.1.0.1)
+pub returns-then-out-length : goal.returns-then-out-length
+returns-then-out-length c =
+    record {
+      told = (open_short _ _ c.requires _ _ (own_taken _ _ c.kept_length.ensures.0) (peer_taken _ _ c.kept_length-2.ensures.0) c.if-out-length.true).0;
+      secret = (open_short _ _ c.requires _ _ (own_taken _ _ c.kept_length.ensures.0) (peer_taken _ _ c.kept_length-2.ensures.0) c.if-out-length.true).1;
+    }
 
 pub returns : goal.returns
-returns c = open_told _ _ c.requires (c.well_formed.0.1.1.1.1.1.1.1.1.1.1.0.1.0.1) (c.well_formed.0.1.1.1.1.1.1.1.1.1.1.1.0.1.0.1) _ _ c.kept_length-n.ensures.0 c.kept_length-m.ensures.0 (omega arith) _ c.write_transcript.ensures _ c.secret_of-secret.ensures
+returns c =
+    record {
+      told = (open_told _ _ c.requires _ _ (own_taken _ _ c.kept_length.ensures.0) (peer_taken _ _ c.kept_length-2.ensures.0) c.if-out-length.false _ c.write_transcript.ensures _ c.secret_of.ensures).0;
+      secret = (open_told _ _ c.requires _ _ (own_taken _ _ c.kept_length.ensures.0) (peer_taken _ _ c.kept_length-2.ensures.0) c.if-out-length.false _ c.write_transcript.ensures _ c.secret_of.ensures).1;
+    }

@@ -1,10 +1,15 @@
 -- `door_reader::is_set` meets its contract.
-use native.Mathlib.Omega.{arith}
-use Rattle.unit_bytes.proofs.Laws.{no_flag, a_flag}
+use mathlib.Core.Path.{◌≡◌, refl}
+use mathlib.Core.Bool.{not}
+use Prim.Native.Nat.{ℕ, zero, suc}
+use lib.Dec.{eqb, eqb-suc-zero}
+use Rattle.unit_bytes.specs.Content.{is_set}
 use Rattle.door_reader.proofs.is_set.Goals as goal
 
-pub returns-then-x-eq0 : goal.returns-then-x-eq0
-returns-then-x-eq0 c = no_flag _ (omega arith)
+not_zero : (x : ℕ) → not (eqb x 0) ≡ is_set x
+unfolding is_set
+not_zero zero = refl
+not_zero (suc x) = rw (eqb-suc-zero x) refl
 
 pub returns : goal.returns
-returns c = a_flag _ (omega arith)
+returns c = not_zero c.args.x

@@ -1,5 +1,5 @@
 -- `door_search::first_sought` meets its contract. The loop's invariant: none of the first i records passes the test.
-use Prim.Native.Nat.{◌+◌, ◌-◌, ◌≤◌}
+use Prim.Native.Nat.{◌+◌}
 use mathlib.Core.Path.{◌≡◌}
 use lib.ListN.{drop}
 use Rattle.door.specs.Record.{first_that}
@@ -8,7 +8,4 @@ use Rattle.door_search.specs.Search.{is_sought}
 use Rattle.door_search.proofs.first_sought.Given as goal
 
 abbrev pub invariant-loop-i : goal.invariant-loop-i
-invariant-loop-i l = (l.i ≤ l.n) × (first_that (is_sought l.sought l.bytes) (seen_of l.view).held ≡ l.i + first_that (is_sought l.sought l.bytes) (drop l.i (seen_of l.view).held))
-
-abbrev pub decreases-loop-i : goal.decreases-loop-i
-decreases-loop-i l = l.n - l.i
+invariant-loop-i l = first_that (is_sought l.sought l.bytes) (seen_of l.fn.view).held ≡ l.i + first_that (is_sought l.sought l.bytes) (drop l.i (seen_of l.fn.view).held)

@@ -14,5 +14,5 @@ returns c =
     let h = c.place_with.ensures in
     let size : length x.rows ≡ 4 = search rules in
     let long : length o ≡ door_size = search rules in
-    let bytes = h.0 ∙ written_place o x _ _ _ c.flag_over-mandatory.ensures c.flag_over-resumed.ensures c.flag_over-held.ensures in
+    let bytes = h.0 ∙ written_place o x _ _ _ c.flag_over.ensures c.flag_over-2.ensures c.flag_over-3.ensures in
     (bytes, ap position_in bytes ∙ position_read o x (record { own_size = h.1; peer_size = h.2; hand_size = record { identifier_size = h.3; secret_size = h.4 }; rows_size = size }), long)

@@ -1,8 +1,7 @@
 -- `frame_nonce::nonce` meets its contract.
-use native.Mathlib.Omega.{arith}
-use Rattle.frame_nonce.proofs.Nonces.{mixed_none, mixed_more, nonce_unfit, nonce_made}
-use Prim.Native.Nat.{◌-◌}
+use Rattle.std.proofs.Common.{arith}
 use Rattle.wire.specs.FrameLaws.{frame_id_twelve}
+use Rattle.frame_nonce.proofs.Nonces.{mixed_none, mixed_more, nonce_unfit, nonce_made}
 use Rattle.frame_nonce.proofs.nonce.Goals as goal
 
 pub returns-then-fixed-ne12 : goal.returns-then-fixed-ne12
@@ -10,21 +9,6 @@ returns-then-fixed-ne12 c = nonce_unfit _ _ (λ e. omega arith)
 
 pub loop-i-init : goal.loop-i-init
 loop-i-init c = mixed_none _ _ _ c.frame_id-made.ensures (frame_id_twelve _)
-
-pub bounds-made-i : goal.bounds-made-i
-bounds-made-i c = omega (arith, c.loop-i.invariant.size)
-
-pub bounds-fixed-i : goal.bounds-fixed-i
-bounds-fixed-i c = omega arith
-
-pub bounds-made-i-in-loop-i : goal.bounds-made-i-in-loop-i
-bounds-made-i-in-loop-i c = omega arith
-
-pub overflow_add-i : goal.overflow_add-i
-overflow_add-i c = omega arith
-
-pub loop-i-smaller : goal.loop-i-smaller
-loop-i-smaller c = omega arith
 
 pub loop-i-preserved : goal.loop-i-preserved
 loop-i-preserved c = mixed_more _ _ _ _ c.loop-i.invariant (omega arith)

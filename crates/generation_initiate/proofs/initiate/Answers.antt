@@ -11,12 +11,12 @@ returns-then-is_owed c = initiate_owed _ _ _ (sym c.is_owed.ensures ∙ c.if-is_
 pub returns-then-g-ge65535 : goal.returns-then-g-ge65535
 returns-then-g-ge65535 c = initiate_past _ _ _ (sym c.is_owed.ensures ∙ c.if-is_owed.false) (omega arith)
 
-pub returns-then-finished : goal.returns-then-finished
-returns-then-finished c = initiate_finished _ _ _ (sym c.is_owed.ensures ∙ c.if-is_owed.false) (omega arith) c.if-finished.true
+pub returns-then-g : goal.returns-then-g
+returns-then-g c = initiate_finished _ _ _ (sym c.is_owed.ensures ∙ c.if-is_owed.false) (omega arith) c.if-g.true
 
 pub returns-then-is_unanswered : goal.returns-then-is_unanswered
-returns-then-is_unanswered c = initiate_unanswered _ _ _ (sym c.is_owed.ensures ∙ c.if-is_owed.false) (omega arith) c.if-finished.false (sym c.is_unanswered.ensures ∙ c.if-is_unanswered.true)
+returns-then-is_unanswered c = initiate_unanswered _ _ _ (sym c.is_owed.ensures ∙ c.if-is_owed.false) (omega arith) c.if-g.false (sym c.is_unanswered.ensures ∙ c.if-is_unanswered.true)
 
 pub returns : goal.returns
 unfolding raised
-returns c = initiate_goes _ _ _ (sym c.is_owed.ensures ∙ c.if-is_owed.false) (omega arith) c.if-finished.false (sym c.is_unanswered.ensures ∙ c.if-is_unanswered.false) c.send_one.result c.send_one.ensures
+returns c = initiate_goes _ _ _ (sym c.is_owed.ensures ∙ c.if-is_owed.false) (omega arith) c.if-g.false (sym c.is_unanswered.ensures ∙ c.if-is_unanswered.false) c.send_one.result c.send_one.ensures

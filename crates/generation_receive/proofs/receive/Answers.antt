@@ -13,5 +13,5 @@ returns-then-g-ge65535 c = receive_past _ _ (not-false _ c.if-not-rekey.false-ra
 pub returns-then-g-remote : goal.returns-then-g-remote
 returns-then-g-remote c = receive_follows c.args.g _ (not-false _ c.if-not-rekey.false-raw) (omega arith) _ (omega arith) (omega arith)
 
-pub returns : goal.returns
-returns c = receive_behind c.args.g _ (not-false _ c.if-not-rekey.false-raw) (omega arith) _ (omega arith) (omega arith)
+pub returns-else-g-remote : goal.returns-else-g-remote
+returns-else-g-remote c = receive_behind c.args.g _ (not-false _ c.if-not-rekey.false-raw) (omega arith) _ (omega arith) (omega arith)

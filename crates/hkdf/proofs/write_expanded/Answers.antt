@@ -28,8 +28,8 @@ slice_bounds-next_block-end c = let l = c.loop-at in sym (length-take-le l.n l.t
 pub slice_bounds-next_block-end-in-loop-at : goal.slice_bounds-next_block-end-in-loop-at
 slice_bounds-next_block-end-in-loop-at c = refl
 
-pub next_block-d-requires : goal.next_block-d-requires
-next_block-d-requires c =
+pub next_block-t-requires : goal.next_block-t-requires
+next_block-t-requires c =
     let l = c.loop-at in
     let a = c.args in
     let n = length-take-le l.n l.t (omega (arith, l.invariant.at_most, l.invariant.size_t)) in
@@ -59,18 +59,18 @@ loop-at-preserved c =
     let a = c.args in
     let l = c.loop-at in
     let q = least_is _ _ c.least-m.ensures in
-    let b : length c.next_block-d.result ≡ 32 = search rules in
-    out_next a.prk.now a.info.now a.out.now l.out l.t c.next_block-d.result c.copy.new.s _ a.size l.n l.at c.least-m.result l.invariant (omega arith) c.requires.room
-    c.next_block-d.ensures refl b q c.copy.ensures
+    let b : length c.next_block-t.result ≡ 32 = search rules in
+    out_next a.prk.now a.info.now a.out.now l.out l.t c.next_block-t.result c.copy.new.s _ a.size l.n l.at c.least-m.result l.invariant (omega arith) c.requires.room
+    c.next_block-t.ensures refl b q c.copy.ensures
 
 pub slice_bounds-t-end-in-loop-at : goal.slice_bounds-t-end-in-loop-at
 slice_bounds-t-end-in-loop-at c =
     let q = least_is _ _ c.least-m.ensures in
-    let b : length c.next_block-d.result ≡ 32 = search rules in
+    let b : length c.next_block-t.result ≡ 32 = search rules in
     omega (arith, q.small)
 
 pub slice_bounds-copy-end : goal.slice_bounds-copy-end
 slice_bounds-copy-end c =
     let q = least_is _ _ c.least-m.ensures in
-    let b : length c.next_block-d.result ≡ 32 = search rules in
-    sym (length-take-le c.least-m.result c.next_block-d.result (omega (arith, q.small)))
+    let b : length c.next_block-t.result ≡ 32 = search rules in
+    sym (length-take-le c.least-m.result c.next_block-t.result (omega (arith, q.small)))

@@ -1,10 +1,13 @@
 -- `hmac::keyed` meets its contract.
-use mathlib.Core.List.{◌++◌}
-use borrow.Author.Rules.{rules}
-use Rattle.hmac.proofs.Macs.{keyed_made}
+use Rattle.std.proofs.Common.{rules}
+use Rattle.std.proofs.lemmas.Result.{err_from_is_err_and}
+use Rattle.hmac.proofs.Macs.{keyed_long, keyed_made}
 use Rattle.hmac.proofs.keyed.Goals as goal
+
+pub returns-in_err-inner : goal.returns-in_err-inner
+returns-in_err-inner c =
+    let p = err_from_is_err_and c.from_residual.result c.from_residual.ensures.1 in rw p.1 (keyed_long _ _ _ _ (search rules) c.xored-pad.ensures c.hash_parts.ensures _ c.in_err-inner.was)
 
 pub returns : goal.returns
 returns c =
-    let a = c.args in
-    keyed_made a.k (a.a.now ++ (a.b.now ++ (a.c.now ++ a.d.now))) c.xored-pad.result c.hash_parts-inner.result c.outer.result ((search rules)) c.xored-pad.ensures c.hash_parts-inner.ensures c.outer.ensures
+    keyed_made _ _ _ _ (search rules) c.xored-pad.ensures c.hash_parts.ensures _ _ _ c.in_ok-inner.was c.xored-pad-2.ensures c.hash_parts-2.ensures

@@ -1,11 +1,7 @@
 -- `init_choice::first_enabled` meets its contract. The loop's invariant: the first i ciphers are not enabled, and the first enabled one is among those left.
-use Prim.Native.Nat.{◌-◌}
 use Rattle.init_layout.specs.Reading.{is_enabled}
 use Rattle.init_choice.proofs.Scanning.{Passed}
 use Rattle.init_choice.proofs.first_enabled.Given as goal
 
-abbrev pub invariant-loop-passed : goal.invariant-loop-passed
-invariant-loop-passed l = Passed (is_enabled l.enabled) l.s 9 l.count l.passed l.place
-
-abbrev pub decreases-loop-passed : goal.decreases-loop-passed
-decreases-loop-passed l = l.count - l.passed
+abbrev pub invariant-loop-i : goal.invariant-loop-i
+invariant-loop-i l = Passed (is_enabled l.enabled) l.s 9 l.i-end l.i

@@ -1,12 +1,8 @@
 -- `init_progress::progress2` meets its contract: the cipher is tested before the fields.
-use mathlib.Core.Path.{sym, ◌∙◌}
-use borrow.Author.Rules.{rules}
+use Rattle.std.proofs.Common.{sym, ◌∙◌}
 use Rattle.init_layout.specs.Layout.{magic_of}
 use Rattle.init_progress.proofs.Progressing.{progress2_void, progress2_settled}
 use Rattle.init_progress.proofs.progress2.Goals as goal
-
--- UNKNOWN slice-aggregate-settle : tie.Need-slice-aggregate-settle
--- slice-aggregate-settle c = search rules
 
 pub returns-then-has_void : goal.returns-then-has_void
 returns-then-has_void c = progress2_void _ _ (sym c.has_void.ensures ∙ c.if-has_void.true)

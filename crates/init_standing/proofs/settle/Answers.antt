@@ -1,24 +1,24 @@
 -- `init_standing::settle` meets its contract: the fields are tested as they come.
-use mathlib.Core.Path.{sym, ◌∙◌}
-use native.Mathlib.Omega.{arith}
-use borrow.Author.Tests.{not-true, not-false}
+use Rattle.std.proofs.Common.{sym, ◌∙◌, arith}
 use Rattle.init_standing.proofs.Standing.{stands_other, stands_above, stands_short, stands_narrow, stands_part_only, stands_whole}
 use Rattle.init_standing.proofs.settle.Goals as goal
+use Rattle.init_standing.proofs.settle.Goals.{then-not-begins-via-then-not-begins, then-not-begins-via-else-not-begins+then-n-gt-MOST}
 
 pub returns-then-not-begins : goal.returns-then-not-begins
-returns-then-not-begins c = stands_other _ _ _ (sym c.begins.ensures ∙ not-true _ c.if-not-begins.true-raw)
-
-pub returns-then-n-gt-MOST : goal.returns-then-n-gt-MOST
-returns-then-n-gt-MOST c = stands_above _ _ _ (sym c.begins.ensures ∙ not-false _ c.if-not-begins.false-raw) _ c.read_u32-n.ensures (omega arith)
+returns-then-not-begins c =
+    elim c.then-not-begins.branch [
+      | then-not-begins-via-then-not-begins w ↦ stands_other _ _ _ (sym c.begins.ensures ∙ w.if-not-begins.true)
+      | then-not-begins-via-else-not-begins+then-n-gt-MOST w ↦ stands_above _ _ _ (sym c.begins.ensures ∙ w.if-not-begins.false) _ c.read_u32-n.ensures (omega arith)
+    ]
 
 pub returns-then-s-lt8 : goal.returns-then-s-lt8
-returns-then-s-lt8 c = stands_short _ _ _ (sym c.begins.ensures ∙ not-false _ c.if-not-begins.false-raw) _ c.read_u32-n.ensures (omega arith) (omega arith)
+returns-then-s-lt8 c = stands_short _ _ _ (sym c.begins.ensures ∙ c.if-not-begins.false) _ c.read_u32-n.ensures (omega arith) (omega arith)
 
 pub returns-then-n-fields : goal.returns-then-n-fields
-returns-then-n-fields c = stands_narrow _ _ _ (sym c.begins.ensures ∙ not-false _ c.if-not-begins.false-raw) _ c.read_u32-n.ensures (omega arith) (omega arith) (omega arith)
+returns-then-n-fields c = stands_narrow _ _ _ (sym c.begins.ensures ∙ c.if-not-begins.false) _ c.read_u32-n.ensures (omega arith) (omega arith) (omega arith)
 
 pub returns-then-s-n : goal.returns-then-s-n
-returns-then-s-n c = stands_part_only _ _ _ (sym c.begins.ensures ∙ not-false _ c.if-not-begins.false-raw) _ c.read_u32-n.ensures (omega arith) (omega arith) (omega arith) (omega arith)
+returns-then-s-n c = stands_part_only _ _ _ (sym c.begins.ensures ∙ c.if-not-begins.false) _ c.read_u32-n.ensures (omega arith) (omega arith) (omega arith) (omega arith)
 
 pub returns : goal.returns
-returns c = stands_whole _ _ _ (sym c.begins.ensures ∙ not-false _ c.if-not-begins.false-raw) _ c.read_u32-n.ensures (omega arith) (omega arith) (omega arith) (omega arith)
+returns c = stands_whole _ _ _ (sym c.begins.ensures ∙ c.if-not-begins.false) _ c.read_u32-n.ensures (omega arith) (omega arith) (omega arith) (omega arith)

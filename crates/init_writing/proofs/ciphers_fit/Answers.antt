@@ -1,17 +1,10 @@
 -- `init_writing::ciphers_fit` meets its contract: the list's length, then its ciphers.
-use mathlib.Core.Path.{sym, ◌∙◌}
-use native.Mathlib.Omega.{arith}
-use Rattle.init_writing.proofs.Fitting.{list_empty, list_many, list_void, list_named}
+use Rattle.std.proofs.Common.{rules}
+use Rattle.init_writing.proofs.Fitting.{list_decides, list_other}
 use Rattle.init_writing.proofs.ciphers_fit.Goals as goal
 
-pub returns-then-ciphers-eq0 : goal.returns-then-ciphers-eq0
-returns-then-ciphers-eq0 c = list_empty _ (omega arith)
+pub returns-then-ciphers-le-MOST : goal.returns-then-ciphers-le-MOST
+returns-then-ciphers-le-MOST c = let h = c.if-ciphers-le-MOST.true in list_decides _ h.0 h.1 _ c.is_in.ensures
 
-pub returns-then-ciphers-gt255 : goal.returns-then-ciphers-gt255
-returns-then-ciphers-gt255 c = list_many _ (λ e. omega arith) (omega arith)
-
-pub returns-then-is_in : goal.returns-then-is_in
-returns-then-is_in c = list_void _ (λ e. omega arith) (omega arith) (sym c.is_in.ensures ∙ c.if-is_in.true)
-
-pub returns : goal.returns
-returns c = list_named _ (λ e. omega arith) (omega arith) (sym c.is_in.ensures ∙ c.if-is_in.false)
+pub returns-else-ciphers-le-MOST : goal.returns-else-ciphers-le-MOST
+returns-else-ciphers-le-MOST c = let f = list_other c.args.ciphers.now c.if-ciphers-le-MOST.either in search (rules, f)

@@ -17,6 +17,7 @@ use Rattle.suboptions.proofs.Laws.{summary_says}
 use Rattle.suboptions.specs.declared.Summary.{Summary}
 use Rattle.valid_tep.specs.Best.{best_of}
 use Rattle.valid_tep.specs.declared.Best.{Best}
+use Rattle.std.specs.Prelude as code
 use Rattle.judgement.specs.Answers.{without_transcript, Judges}
 use Rattle.judgement.specs.Laws.Plainly.{judges_reason}
 use Rattle.judgement.specs.Laws.Found.{after_found}
@@ -90,7 +91,7 @@ module _ (mandatory : Bool) (hand : Option SessionRecord) (ownArea peerArea : Li
                   rw (j, n) (conclusion hand own peer (eqb (role_of own) 1) (role_of own))
 
 -- what `negotiate` computes
-pub negotiated_by_lem : (own peer : List ℕ) (hand : Option SessionRecord) (s p : Summary) (a b : List ℕ) (best : Best) → a ≡ of_a (eqb s.role 1) own peer
+pub negotiated_by_lem : (own peer : List ℕ) (hand : Option SessionRecord) (s p : Summary) (a b : List ℕ) (best : code.Option Best) → a ≡ of_a (eqb s.role 1) own peer
     → b ≡ of_b (eqb s.role 1) own peer → best ≡ best_of a b hand (eqb s.role 1) s.teps p.teps → concluded a b s.role best ≡ negotiated own peer hand s p
 unfolding negotiated
 negotiated_by_lem own peer hand s p a b best ea eb e =

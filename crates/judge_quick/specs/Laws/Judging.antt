@@ -22,9 +22,10 @@ use Rattle.suboptions.proofs.Laws.{summary_says}
 use Rattle.suboptions.specs.declared.Entry.{Entry}
 use Rattle.suboptions.specs.declared.Summary.{Summary}
 use Rattle.judgement.specs.Answers.{judged_of, transcript_of, most_transcript, padded, without_transcript, Judges}
-use Rattle.valid_tep.specs.Best.{none_yet, best_from, ways_of, starts_of, best_of, better_of}
+use Rattle.valid_tep.specs.Best.{none_yet, best_from, ways_of, starts_of, best_of, better_of, is_found, start_of, resumed_of}
 use Rattle.judge_quick.specs.Quick.{byte_before, concluded, negotiated}
 use Rattle.valid_tep.specs.declared.Best.{Best}
+use Rattle.std.specs.Prelude as code
 use Rattle.judgement.specs.declared.Reason.TheVariants as reason
 use Rattle.judgement.specs.declared.Verdict.{Verdict}
 use Rattle.judgement.specs.declared.Verdict.TheVariants as verdict
@@ -50,7 +51,7 @@ module _ (t : ℕ) (l : List Sent) (x : Sent) (e : named t l ≡ x ∷ []) where
   one_alone y h q = ⊎_elim (λ r. r) (λ z. absurd z) (subst (In y) e (there_named t l y h q))
 
 -- the best is looked for at 21 to 24 alone
-best_same : (f g : ℕ → Option Way) (start : ℕ → ℕ) → ((t : ℕ) → 0x21 ≤ t → t ≤ 0x24 → f t ≡ g t) → (k t : ℕ) (best : Best) → 0x21 ≤ t → t + k ≤ 0x25
+best_same : (f g : ℕ → Option Way) (start : ℕ → ℕ) → ((t : ℕ) → 0x21 ≤ t → t ≤ 0x24 → f t ≡ g t) → (k t : ℕ) (best : code.Option Best) → 0x21 ≤ t → t + k ≤ 0x25
     → best_from f start k t best ≡ best_from g start k t best
 unfolding best_from
 best_same f g start h zero t best low high = refl
@@ -103,17 +104,17 @@ module _ (hand : Option SessionRecord) (own peer : List ℕ) (own_is_b : Bool) w
       let z : at ≡ 0 → ⊥ = λ q. o.positive (e ∙ q) in
       simp (ne_eqb _ _ z) (ap (λ n. get_or b (n - 1) 0) (sym e) ∙ o.byte_there)
 
-  none_concluded : (role : ℕ) (best : Best) → best.found ≡ false → last_valid (validity s) (teps_of b) ≡ none → Judges (negotiate role s) (concluded a b role best)
+  none_concluded : (role : ℕ) (best : code.Option Best) → is_found best ≡ false → last_valid (validity s) (teps_of b) ≡ none → Judges (negotiate role s) (concluded a b role best)
   unfolding negotiate concluded agreed without_transcript padded
   none_concluded role best q l = rw (l, agreed) (simp q (record { told = refl; counted = refl; filled = refl }))
 
-  one_concluded : (role : ℕ) (best : Best) (x : Sent) → best.found ≡ true → In x (teps_of b) → x.start ≡ best.start
-      → last_valid (validity s) (teps_of b) ≡ some (record { byte = x.byte; way = way_if best.resumed }) → Judges (negotiate role s) (concluded a b role best)
+  one_concluded : (role : ℕ) (best : code.Option Best) (x : Sent) → is_found best ≡ true → In x (teps_of b) → x.start ≡ start_of best
+      → last_valid (validity s) (teps_of b) ≡ some (record { byte = x.byte; way = way_if (resumed_of best) }) → Judges (negotiate role s) (concluded a b role best)
   unfolding negotiate concluded agreed
   one_concluded role best x q h e l =
       rw (l, agreed) (simp q
       (record {
-        told = ap (λ n. encrypt role n (way_if best.resumed) (a ++ b)) (byte_is x h best.start e);
+        told = ap (λ n. encrypt role n (way_if (resumed_of best)) (a ++ b)) (byte_is x h (start_of best) e);
         counted = sym (length-append a b);
         filled = refl;
       }))
@@ -122,9 +123,9 @@ module _ (hand : Option SessionRecord) (own peer : List ℕ) (own_is_b : Bool) w
   pub conclusion : (role : ℕ) → Judges (negotiate role s) (concluded a b role (best_of a b hand own_is_b (entries_of (teps_of own)) (entries_of (teps_of peer))))
   conclusion role = rw best_of_valid (go (best_from (validity s) start 4 0x21 none_yet) last_is)
     where
-      go : (best : Best) → Last (validity s) start (teps_of b) stands best → Judges (negotiate role s) (concluded a b role best)
-      go best l = by best.found refl
+      go : (best : code.Option Best) → Last (validity s) start (teps_of b) stands best → Judges (negotiate role s) (concluded a b role best)
+      go best l = by (is_found best) refl
         where
-          by : (f : Bool) → best.found ≡ f → Judges (negotiate role s) (concluded a b role best)
+          by : (f : Bool) → is_found best ≡ f → Judges (negotiate role s) (concluded a b role best)
           by false q = none_concluded role best q (l.no_last q)
           by true q = let r = l.the_last q in one_concluded role best r.0 q r.1 r.3 r.2

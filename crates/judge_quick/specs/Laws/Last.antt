@@ -14,8 +14,9 @@ use Rattle.eno.specs.Suboption.{Sent, name}
 use Rattle.eno.specs.Judge.{Way, fresh, resumed, way_if, is_resumed, Negotiated, negotiated_by, or_else, last_valid}
 use Rattle.eno.specs.Laws.Teps.{In, Ordered}
 use Rattle.eno.proofs.Laws.Teps.{ordered_in}
-use Rattle.valid_tep.specs.Best.{found_at, none_yet, is_later, resumed_by, better_of, best_from}
+use Rattle.valid_tep.specs.Best.{found_at, none_yet, is_later, resumed_by, better_of, best_from, is_found, start_of, resumed_of}
 use Rattle.valid_tep.specs.declared.Best.{Best}
+use Rattle.std.specs.Prelude as code
 
 abbrev chosen_as : Sent → Way → Option Negotiated
 chosen_as x w = some (record { byte = x.byte; way = w })
@@ -66,10 +67,10 @@ module _ (valid : ℕ → Option Way) where
 
   module _ (start : ℕ → ℕ) (l : List Sent) (stands : (t : ℕ) → Valid t → Stands start l t) where
     -- the best of the TEPs from 21 on, n of them
-    record Among (n : ℕ) (best : Best) : Type 0 where
-      none_found : best.found ≡ false → (j : ℕ) → j < n → valid (0x21 + j) ≡ none
-      this_found : best.found ≡ true → (x : Sent) × In x l × (valid (name x) ≡ some (way_if best.resumed)) × (x.start ≡ best.start)
-      largest : best.found ≡ true → (j : ℕ) → j < n → (y : Sent) → In y l → name y ≡ 0x21 + j → Valid (name y) → y.start ≤ best.start
+    record Among (n : ℕ) (best : code.Option Best) : Type 0 where
+      none_found : is_found best ≡ false → (j : ℕ) → j < n → valid (0x21 + j) ≡ none
+      this_found : is_found best ≡ true → (x : Sent) × In x l × (valid (name x) ≡ some (way_if (resumed_of best))) × (x.start ≡ start_of best)
+      largest : is_found best ≡ true → (j : ℕ) → j < n → (y : Sent) → In y l → name y ≡ 0x21 + j → Valid (name y) → y.start ≤ start_of best
 
     way_back : (w : Way) → way_if (is_resumed w) ≡ w
     way_back fresh = refl
@@ -81,13 +82,13 @@ module _ (valid : ℕ → Option Way) where
       | no e ↦ below j (omega arith)
     ]
 
-    module _ (n : ℕ) (best : Best) (a : Among n best) where
+    module _ (n : ℕ) (best : code.Option Best) (a : Among n best) where
       among_none : valid (0x21 + n) ≡ none → Among (suc n) best
       among_none e =
           record {
             none_found = λ f. one_more (λ j. valid (0x21 + j) ≡ none) n (a.none_found f) e;
             this_found = a.this_found;
-            largest = λ f. one_more (λ j. (y : Sent) → In y l → name y ≡ 0x21 + j → Valid (name y) → y.start ≤ best.start) n (a.largest f)
+            largest = λ f. one_more (λ j. (y : Sent) → In y l → name y ≡ 0x21 + j → Valid (name y) → y.start ≤ start_of best) n (a.largest f)
                 (λ y i q v. absurd (v (ap valid q ∙ e)));
           }
 
@@ -98,12 +99,12 @@ module _ (valid : ℕ → Option Way) where
         same_start : (y : Sent) → In y l → name y ≡ 0x21 + n → y.start ≡ start (0x21 + n)
         same_start y i q = ap (λ (z : Sent). z.start) (s.alone y i q) ∙ sym s.starts
 
-        among_kept : best.found ≡ true → start (0x21 + n) ≤ best.start → Among (suc n) best
+        among_kept : is_found best ≡ true → start (0x21 + n) ≤ start_of best → Among (suc n) best
         among_kept f h =
             record {
               none_found = λ g. absurd (true≢false (sym f ∙ g));
               this_found = a.this_found;
-              largest = λ g. one_more (λ j. (y : Sent) → In y l → name y ≡ 0x21 + j → Valid (name y) → y.start ≤ best.start) n (a.largest g)
+              largest = λ g. one_more (λ j. (y : Sent) → In y l → name y ≡ 0x21 + j → Valid (name y) → y.start ≤ start_of best) n (a.largest g)
                   (λ y i q v. let z = same_start y i q in omega arith);
             }
 
@@ -118,13 +119,13 @@ module _ (valid : ℕ → Option Way) where
 
         among_later : Among (suc n) (better_of best (some w) (start (0x21 + n)))
         unfolding better_of is_later resumed_by
-        among_later = go best.found refl
+        among_later = go (is_found best) refl
           where
-            go : (b : Bool) → best.found ≡ b → Among (suc n) (cond (cond b (ltb best.start (start (0x21 + n))) true) (found_at (start (0x21 + n)) (is_resumed w)) best)
+            go : (b : Bool) → is_found best ≡ b → Among (suc n) (cond (cond b (ltb (start_of best) (start (0x21 + n))) true) (found_at (start (0x21 + n)) (is_resumed w)) best)
             go false f = among_new (λ j h y i q v. absurd (v (ap valid q ∙ a.none_found f j h)))
-            go true f = elim (dec_lt best.start (start (0x21 + n))) [
+            go true f = elim (dec_lt (start_of best) (start (0x21 + n))) [
               | yes h ↦ rw (lt-ltb _ _ h) (among_new (λ j k y i q v. let z = a.largest f j k y i q v in omega arith))
-              | no h ↦ let k : start (0x21 + n) ≤ best.start = omega arith in rw (le-ltb _ _ k) (among_kept f k)
+              | no h ↦ let k : start (0x21 + n) ≤ start_of best = omega arith in rw (le-ltb _ _ k) (among_kept f k)
             ]
 
       among_better : Among (suc n) (better_of best (valid (0x21 + n)) (start (0x21 + n)))
@@ -135,7 +136,7 @@ module _ (valid : ℕ → Option Way) where
           go none e = among_none e
           go (some w) e = among_later w e
 
-    among_from : (k n t : ℕ) (best : Best) → t ≡ 0x21 + n → Among n best → Among (n + k) (best_from valid start k t best)
+    among_from : (k n t : ℕ) (best : code.Option Best) → t ≡ 0x21 + n → Among n best → Among (n + k) (best_from valid start k t best)
     unfolding best_from
     among_from zero n t best q a = subst (λ m. Among m best) (let e : n ≡ n + 0 = omega arith in e) a
     among_from (suc k) n t best q a =
@@ -148,28 +149,28 @@ module _ (valid : ℕ → Option Way) where
     among_start =
         record { none_found = λ f j h. absurd (omega arith); this_found = λ f. absurd (false≢true f); largest = λ f. absurd (false≢true f) }
 
-    pub record Last (best : Best) : Type 0 where
-      pub no_last : best.found ≡ false → last_valid valid l ≡ none
-      pub the_last : best.found ≡ true → (x : Sent) × In x l × (last_valid valid l ≡ chosen_as x (way_if best.resumed)) × (x.start ≡ best.start)
+    pub record Last (best : code.Option Best) : Type 0 where
+      pub no_last : is_found best ≡ false → last_valid valid l ≡ none
+      pub the_last : is_found best ≡ true → (x : Sent) × In x l × (last_valid valid l ≡ chosen_as x (way_if (resumed_of best))) × (x.start ≡ start_of best)
 
     -- no TEP is valid but 21 to 24
     pub best_is_last : ((t : ℕ) → Valid t → (0x21 ≤ t) × (t ≤ 0x24)) → (i : ℕ) → Ordered i l → Last (best_from valid start 4 0x21 none_yet)
     best_is_last known i o = record { no_last = none_last; the_last = last }
       where
-        best : Best
+        best : code.Option Best
         best = best_from valid start 4 0x21 none_yet
 
         a : Among 4 best
         a = subst (λ n. Among n best) (let e : 0 + 4 ≡ 4 = omega arith in e) (among_from 4 0 0x21 none_yet (let e : 0x21 ≡ 0x21 + 0 = omega arith in e) among_start)
 
-        none_last : best.found ≡ false → last_valid valid l ≡ none
+        none_last : is_found best ≡ false → last_valid valid l ≡ none
         none_last f = last_none l (λ x p. ⊎_elim (λ n. n)
             (λ v. let k = known (name x) (is_valid_lem (name x) v.0 v.1) in
             let q : name x ≡ 0x21 + (name x - 0x21) = omega arith in
             ap valid q ∙ a.none_found f (name x - 0x21) (omega arith))
             (valid_or_not (name x)))
 
-        last : best.found ≡ true → (x : Sent) × In x l × (last_valid valid l ≡ chosen_as x (way_if best.resumed)) × (x.start ≡ best.start)
+        last : is_found best ≡ true → (x : Sent) × In x l × (last_valid valid l ≡ chosen_as x (way_if (resumed_of best))) × (x.start ≡ start_of best)
         last f =
             let t = a.this_found f in
             let x = t.0 in
@@ -178,4 +179,4 @@ module _ (valid : ℕ → Option Way) where
             let h = a.largest f (name y - 0x21) (omega arith) y p (omega arith) v in
             let e = t.3 in
             omega arith in
-            (x, t.1, last_some l i o x (way_if best.resumed) t.1 t.2 most, t.3)
+            (x, t.1, last_some l i o x (way_if (resumed_of best)) t.1 t.2 most, t.3)

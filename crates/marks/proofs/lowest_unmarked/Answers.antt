@@ -1,38 +1,36 @@
 -- `marks::lowest_unmarked` meets its contract.
-use mathlib.Core.Path.{◌∙◌}
 use native.Mathlib.Omega.{arith}
 use borrow.Author.Rules.{rules}
 use Rattle.unit.specs.Numbers.{rows_n, word_n, words_n}
 use Rattle.marks.proofs.Words.{free_in_word, word_full, no_word}
 use Rattle.marks.proofs.lowest_unmarked.Goals as goal
 
-pub loop-i-init : goal.loop-i-init
+pub loop-word-init : goal.loop-word-init
 unfolding rows_n word_n words_n
-loop-i-init c = (omega arith, search rules, omega arith)
+loop-word-init c = (search rules, omega arith, omega arith)
 
-pub loop-i-smaller : goal.loop-i-smaller
+pub overflow_add-row : goal.overflow_add-row
 unfolding rows_n word_n words_n
-loop-i-smaller c = omega arith
+overflow_add-row c = omega (arith, c.loop-word.invariant.1)
+
+pub overflow_add-result : goal.overflow_add-result
+unfolding rows_n word_n words_n
+overflow_add-result c = omega (arith, c.loop-word.invariant.1)
 
 pub returns-then-marked-lt32 : goal.returns-then-marked-lt32
 unfolding rows_n word_n words_n
 returns-then-marked-lt32 c =
-    let l = c.loop-i in
-    let words = c.args.words in
-    let marked = c.wide-marked.ensures ∙ c.trailing_marked.ensures in
-    (omega (arith, l.invariant.2, free_in_word words l.i _ (omega (arith, l.invariant.1)) marked (omega arith)), l.invariant.1)
+    let l = c.loop-word in
+    (omega (arith, l.invariant.2, free_in_word c.args.words l.word-index _ (omega (arith, l.invariant.0)) c.trailing_marked-marked.ensures (omega arith)), l.invariant.0)
 
-pub loop-i-preserved : goal.loop-i-preserved
+pub loop-word-preserved : goal.loop-word-preserved
 unfolding rows_n word_n words_n
-loop-i-preserved c =
-    let l = c.loop-i in
-    let words = c.args.words in
-    let marked = c.wide-marked.ensures ∙ c.trailing_marked.ensures in
-    (omega arith, l.invariant.1, omega (arith, l.invariant.2, word_full words l.i _ (omega (arith, l.invariant.1)) marked (omega arith)))
+loop-word-preserved c =
+    let l = c.loop-word in
+    (l.invariant.0, omega (arith, l.invariant.1), omega (arith, l.invariant.2, word_full c.args.words l.word-index _ (omega (arith, l.invariant.0)) c.trailing_marked-marked.ensures (omega arith)))
 
 pub returns : goal.returns
 unfolding rows_n word_n words_n
 returns c =
-    let l = c.loop-i in
-    let words = c.args.words in
-    (omega (arith, l.invariant.2, no_word words l.i (omega (arith, l.invariant.1))), l.invariant.1)
+    let l = c.loop-word in
+    (omega (arith, l.invariant.2, no_word c.args.words l.word-index (omega (arith, l.invariant.0))), l.invariant.0)

@@ -13,8 +13,8 @@ pub bounds-view-j : goal.bounds-view-j
 unfolding each_n
 bounds-view-j c = omega arith
 
-pub returns-then-j-n : goal.returns-then-j-n
-returns-then-j-n c = hand_there _ _ c.held_count-n.ensures _ (omega arith) _ refl refl
+pub returns-then-j-held_count : goal.returns-then-j-held_count
+returns-then-j-held_count c = hand_there _ _ c.held_count.ensures _ (omega arith) _ refl refl
 
 pub returns : goal.returns
-returns c = c.empty_hand.ensures ∙ hand_none _ _ c.held_count-n.ensures _ (omega arith)
+returns c = c.empty_hand.ensures ∙ hand_none _ _ c.held_count.ensures _ (omega arith)

@@ -1,5 +1,5 @@
 -- What the option writer's answers tell.
-use Rattle.std.specs.Prelude.{ℕ, zero, suc, ◌+◌, ◌-◌, ◌≤◌, ◌<◌, List, [], ◌∷◌, ◌++◌, Bool, not, ◌&&◌, leb, drop, replicate}
+use Rattle.std.specs.Prelude.{ℕ, zero, suc, ◌+◌, ◌-◌, ◌≤◌, ◌<◌, List, [], ◌∷◌, ◌++◌, Bool, not, ◌&&◌, leb, drop, replicate, Result, Ok, Err}
 use Rattle.std.proofs.Math.Path.{◌≡◌, refl, ap}
 use Rattle.std.proofs.Common.{sym, ◌∙◌}
 use Rattle.std.proofs.Math.Bool.{true, false, cond}
@@ -17,9 +17,9 @@ use Rattle.eno.specs.Laws.Asked.{MayBeAsked}
 use Rattle.eno.proofs.Laws.Asked.{and_true, is_tep}
 use Rattle.eno.specs.declared.SessionRecord.{SessionRecord}
 use Rattle.eno.specs.declared.InHand.{InHand}
-use Rattle.option_writer.specs.Answers.{writing_of}
-use Rattle.option_writer.specs.declared.OptionWritten.{OptionWritten}
-use Rattle.option_writer.specs.declared.OptionWritten.TheVariants as says
+use Rattle.option_writer.specs.Answers.{option_refusal_number, writing_of}
+use Rattle.option_writer.specs.declared.OptionRefusal.{OptionRefusal}
+use Rattle.option_writer.specs.declared.OptionRefusal.TheVariants as refusal
 use Rattle.door.specs.Door.{hand_of, empty_hand}
 
 -- what a writer wrote
@@ -61,18 +61,23 @@ module _ (asked : List Content) (s t : List ℕ) where
       go false e = let y = ap (λ (w : Written). w.says) e in let z : ◌≡◌ {A = ℕ} 0 1 = cc in omega arith
 
   -- the same, from what the code's writer says
-  module _ (r : OptionWritten) (w : written_as (writing_of r) t ≡ write_option true asked s) where
-    said : (x : OptionWritten) → r ≡ x → written_as (writing_of x) t ≡ write_option true asked s
+  module _ (r : Result ℕ OptionRefusal) (w : written_as (writing_of r) t ≡ write_option true asked s) where
+    said : (x : Result ℕ OptionRefusal) → r ≡ x → written_as (writing_of x) t ≡ write_option true asked s
     said x q = ap (λ y. written_as (writing_of y) t) (sym q) ∙ w
 
-    pub said_wrote : (k : ℕ) → r ≡ says.Wrote k → Wrote asked s k t
-    said_wrote k q = wrote_tells k (said (says.Wrote k) q)
+    pub said_wrote : (k : ℕ) → r ≡ Ok k → Wrote asked s k t
+    said_wrote k q = wrote_tells k (said (Ok k) q)
 
-    pub said_no_room : r ≡ says.NoRoom → (length s < length (option_with asked)) × (t ≡ s)
-    said_no_room q = no_room_tells (said says.NoRoom q)
+    pub said_no_room : r ≡ Err refusal.NoRoom → (length s < length (option_with asked)) × (t ≡ s)
+    said_no_room q = no_room_tells (said (Err refusal.NoRoom) q)
 
-    pub said_unfit : r ≡ says.Unfit → ⊥
-    said_unfit q = unfit_never (said says.Unfit q)
+    pub said_unfit : r ≡ Err refusal.Unfit → ⊥
+    said_unfit q = unfit_never (said (Err refusal.Unfit) q)
+
+    -- a refusal, whichever: the buffer is too short, and stays as it was
+    pub said_refused : (why : OptionRefusal) → r ≡ Err why → (length s < length (option_with asked)) × ((t ≡ s) × (option_refusal_number why ≡ 5))
+    said_refused refusal.Unfit q = absurd (said_unfit q)
+    said_refused refusal.NoRoom q = let n = said_no_room q in (n.0, (n.1, refl))
 
   -- the bytes that were written are the option
   module _ (k : ℕ) (w : Wrote asked s k t) where

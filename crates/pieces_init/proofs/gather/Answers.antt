@@ -1,6 +1,7 @@
 -- `pieces_init::gather` meets its contract.
-use Prim.Native.Nat.{◌-◌}
-use native.Mathlib.Omega.{arith}
+use Rattle.std.specs.Prelude.{◌≡◌, length}
+use Rattle.std.proofs.Common.{◌∙◌, ap, arith}
+use Rattle.pieces_steps.specs.Later.{waiting_of}
 use Rattle.pieces_layout.specs.Reader.{moved}
 use Rattle.pieces_init.specs.InitWays.{gathered_start, gathered_rest, gathered_stops, gathered_next, gathered_all}
 use Rattle.pieces_init.proofs.gather.Goals as goal
@@ -15,29 +16,11 @@ pub returns-then-nonce-n : goal.returns-then-nonce-n
 unfolding moved
 returns-then-nonce-n c = let a = c.args in let l = c.loop-i in gathered_rest a.two a.tep a.numbers.now a.gathered.now a.piece.now l.numbers l.gathered l.n l.i l.invariant c.rest.result _ _ c.rest.ensures
 
-pub bounds-piece-i : goal.bounds-piece-i
-bounds-piece-i c = omega arith
-
-pub bounds-gathered-n : goal.bounds-gathered-n
-bounds-gathered-n c = omega arith
-
 pub returns-then-settled : goal.returns-then-settled
 returns-then-settled c = let a = c.args in let l = c.loop-i in gathered_stops a.two a.tep a.numbers.now a.gathered.now a.piece.now l.numbers l.gathered l.n l.i l.invariant (omega arith) (omega arith) (omega arith) _ c.settled.ensures c.if-settled.true _ c.set_numbers.ensures
-
-pub overflow_add-n : goal.overflow_add-n
-overflow_add-n c = omega arith
-
-pub overflow_add-i : goal.overflow_add-i
-overflow_add-i c = omega arith
-
-pub loop-i-smaller : goal.loop-i-smaller
-loop-i-smaller c = omega arith
 
 pub loop-i-preserved : goal.loop-i-preserved
 loop-i-preserved c = let a = c.args in let l = c.loop-i in gathered_next a.two a.tep a.numbers.now a.gathered.now a.piece.now l.numbers l.gathered l.n l.i l.invariant (omega arith) (omega arith) (omega arith) _ c.settled.ensures c.if-settled.false
 
-pub bounds-numbers-0 : goal.bounds-numbers-0
-bounds-numbers-0 c = omega arith
-
 pub returns : goal.returns
-returns c = let a = c.args in let l = c.loop-i in gathered_all a.two a.tep a.numbers.now a.gathered.now a.piece.now l.numbers l.gathered l.n l.i l.invariant (omega arith) c.waiting.result c.waiting.ensures
+returns c = let a = c.args in let l = c.loop-i in gathered_all a.two a.tep a.numbers.now a.gathered.now a.piece.now l.numbers l.gathered l.n l.i l.invariant (omega arith) c.waiting.result (let e : length a.piece.now ≡ l.i = omega arith in c.waiting.ensures ∙ ap waiting_of e)

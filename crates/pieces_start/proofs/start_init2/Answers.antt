@@ -17,4 +17,4 @@ pub returns-then-gathered-lt-GATHERED : goal.returns-then-gathered-lt-GATHERED
 returns-then-gathered-lt-GATHERED c = two_narrow _ _ _ _ _ c.keys_of-keys.ensures.0 c.if-keys-eq0.false (omega arith) (omega arith) (omega arith)
 
 pub returns : goal.returns
-returns c = two_started _ _ _ _ _ c.keys_of-keys.ensures.0 c.if-keys-eq0.false (omega arith) (omega arith) (omega arith) _ _ _ _ c.wide-first.ensures refl c.put_list.ensures c.set_numbers.ensures
+returns c = two_started _ _ _ _ _ c.keys_of-keys.ensures.0 c.if-keys-eq0.false (omega arith) (omega arith) (omega arith) _ _ _ _ c.wide-first.ensures refl c.put_ciphers.ensures c.set_numbers.ensures

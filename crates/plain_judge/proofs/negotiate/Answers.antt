@@ -13,4 +13,4 @@ pub conclude-requires : goal.conclude-requires
 conclude-requires c = (short_a _ _ _ _ c.host_a_option-a.ensures.0 c.requires.0 c.requires.1, short_b _ _ _ _ c.host_b_option-b.ensures.0 c.requires.0 c.requires.1)
 
 pub returns : goal.returns
-returns c = negotiated_some _ _ _ _ _ _ _ _ c.host_a_option-a.ensures.0 c.host_b_option-b.ensures.0 c.last_item-last.result (last_is _ _ (c.strike-left.ensures.0 ∙ struck_of _ _ _ c.list-all.ensures) c.strike-left.ensures.1 (omega arith) c.last_item-last.result c.last_item-last.ensures) c.way_of-v.result c.way_of-v.ensures _ c.conclude.ensures
+returns c = negotiated_some _ _ _ _ _ _ _ _ c.host_a_option-a.ensures.0 c.host_b_option-b.ensures.0 c.last_item-last.result (last_is _ _ (c.strike-left.ensures.0 ∙ struck_of _ _ _ c.list-all.ensures) c.strike-left.ensures.1 (omega arith) c.last_item-last.result c.last_item-last.ensures) c.way_of-way.result c.way_of-way.ensures _ c.conclude.ensures

@@ -1,28 +1,41 @@
 -- `pool_effects::enacted` meets its contract.
-use mathlib.Core.Path.{refl}
+use mathlib.Core.Path.{refl, sym, ◌∙◌}
 use native.Mathlib.Omega.{arith}
+use borrow.Author.Rules.{rules}
+use Rattle.std.specs.Prelude.{Some, None}
 use Rattle.unit.specs.Numbers.{doors_n}
-use Rattle.pool.proofs.PlacedLaws.{enacts_past, enacts_fit, enacts_unfit}
+use Rattle.unit_bytes.specs.Laws.{SizedRecord}
+use Rattle.pool.proofs.PlacedLaws.{row_marked, row_unmarked, enacts_past, enacts_fit, enacts_unfit}
 use Rattle.pool_effects.proofs.enacted.Goals as goal
 
 pub returns-then-d-ge-DOORS : goal.returns-then-d-ge-DOORS
 unfolding doors_n
 returns-then-d-ge-DOORS c = let a = c.args in enacts_past a.marks.now a.rows.now a.doors.now a.d a.position a.free a.after a.change a.added (omega arith)
 
-pub returns-then-next : goal.returns-then-next
+pub returns-in-Some-mark : goal.returns-in-Some-mark
 unfolding doors_n
-returns-then-next c =
+returns-in-Some-mark c =
     let a = c.args in
-    let n = c.list_after-next in
     let s = c.session_after-session in
-    enacts_fit a.marks.now _ a.rows.now _ a.doors.now _ a.d a.position a.free a.after a.change a.added s.result n.result (omega arith) n.ensures.0 s.ensures
-    n.ensures.1 c.put_row.ensures c.if-next.true c.put_door.ensures
+    let n = c.in-Some.next in
+    enacts_fit a.marks.now _ a.rows.now _ a.doors.now _ a.d a.position a.free a.after a.change a.added s.result (Some n) (omega arith) (sym c.in-Some.is ∙ c.list_after.ensures.0) s.ensures
+    c.list_after.ensures.1 (row_marked _ _ _ _ n.mark c.in-Some-mark.mark s.result c.in-Some-mark.is c.put_row.ensures) n refl c.put_door.ensures
 
-pub returns-else-next : goal.returns-else-next
+pub returns-in_default-mark : goal.returns-in_default-mark
 unfolding doors_n
-returns-else-next c =
+returns-in_default-mark c =
     let a = c.args in
-    let n = c.list_after-next in
     let s = c.session_after-session in
-    enacts_unfit a.marks.now _ a.rows.now _ a.doors.now _ a.d a.position a.free a.after a.change a.added s.result n.result (omega arith) n.ensures.0 s.ensures
-    n.ensures.1 c.put_row.ensures c.if-next.false refl
+    let n = c.in-Some.next in
+    let sized : SizedRecord s.result = record { identifier_size = search rules; secret_size = search rules } in
+    enacts_fit a.marks.now _ a.rows.now _ a.doors.now _ a.d a.position a.free a.after a.change a.added s.result (Some n) (omega arith) (sym c.in-Some.is ∙ c.list_after.ensures.0) s.ensures
+    c.list_after.ensures.1 (row_unmarked a.marks.now a.rows.now n.mark s.result c.in_default-mark.is sized) n refl c.put_door.ensures
+
+pub returns-in_default : goal.returns-in_default
+unfolding doors_n
+returns-in_default c =
+    let a = c.args in
+    let s = c.session_after-session in
+    let sized : SizedRecord s.result = record { identifier_size = search rules; secret_size = search rules } in
+    enacts_unfit a.marks.now _ a.rows.now _ a.doors.now _ a.d a.position a.free a.after a.change a.added s.result None (omega arith) (sym c.in_default.is ∙ c.list_after.ensures.0) s.ensures
+    c.list_after.ensures.1 (row_unmarked a.marks.now a.rows.now None s.result refl sized) refl refl

@@ -2,7 +2,7 @@
 use borrow.Author.Rules.{rules}
 use mathlib.Core.Path.{◌≡◌, ap, ◌∙◌}
 use mathlib.Core.List.{List}
-use Prim.Native.Nat.{◌-◌, ◌<◌}
+use Prim.Native.Nat.{◌<◌}
 use native.Mathlib.Omega.{arith}
 use lib.ListN.{replicate}
 use Rattle.eno.specs.declared.SessionRecord.{SessionRecord}
@@ -17,7 +17,7 @@ pub loop-i-init : goal.loop-i-init
 unfolding each_n
 loop-i-init c =
     let a = c.args in
-    (omega arith, ap (λ (s : SessionRecord). replicate each_n s) c.no_session-zeros.ensures ∙ gathered_none (rows_in a.rows.now) a.position.rows)
+    ap (λ (s : SessionRecord). replicate each_n s) c.no_session-zeros.ensures ∙ gathered_none (rows_in a.rows.now) a.position.rows
 
 pub bounds-position-i : goal.bounds-position-i
 unfolding each_n
@@ -38,7 +38,7 @@ loop-i-preserved c =
     let a = c.args in
     let n = c.count_of-n in
     let within : l.i < each_n = omega (arith, n.ensures.0) in
-    (omega arith, gathered_more (rows_in a.rows.now) a.position.rows l.i n.ensures.1 within l.held _ l.invariant.1 c.record_at-session.ensures)
+    gathered_more (rows_in a.rows.now) a.position.rows l.i n.ensures.1 within l.held _ l.invariant c.record_at.ensures
 
 pub returns : goal.returns
 returns c =
@@ -46,4 +46,4 @@ returns c =
     let a = c.args in
     let n = c.count_of-n in
     let e : l.i ≡ count_of a.position = omega (arith, n.ensures.0) in
-    view_gathered a.rows.now a.position n.ensures.1 _ (ap (λ (held : List SessionRecord). record { door = a.position.door; count = a.position.count; held = held }) (l.invariant.1 ∙ ap (gathered (rows_in a.rows.now) a.position.rows) e))
+    view_gathered a.rows.now a.position n.ensures.1 _ (ap (λ (held : List SessionRecord). record { door = a.position.door; count = a.position.count; held = held }) (l.invariant ∙ ap (gathered (rows_in a.rows.now) a.position.rows) e))

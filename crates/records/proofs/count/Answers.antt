@@ -5,4 +5,4 @@ use Rattle.records.proofs.count.Goals as goal
 
 pub returns : goal.returns
 unfolding seen_of
-returns c = count_holds (seen_of c.args.view) _ c.held_count-n.ensures.seen
+returns c = count_holds (seen_of c.args.view) _ c.held_count.ensures.seen

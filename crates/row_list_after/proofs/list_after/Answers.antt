@@ -1,10 +1,8 @@
 -- `row_list_after::list_after` meets its contract.
-use Rattle.unit.specs.Numbers.{rows_n}
 use Rattle.row_list.proofs.Listings.{list_kept, list_longer, list_shorter}
 use Rattle.row_list_after.proofs.list_after.Goals as goal
 
 pub returns-in-Keep : goal.returns-in-Keep
-unfolding rows_n
 returns-in-Keep c = (list_kept _ _ _ c.in-Keep.is, c.count_of-n.ensures.1)
 
 pub returns-in-Add : goal.returns-in-Add

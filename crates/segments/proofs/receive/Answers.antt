@@ -1,25 +1,21 @@
 -- `receive` meets its contract.
-use mathlib.Core.Path.{refl}
-use native.Mathlib.Omega.{arith}
-use Rattle.door.specs.Receive.{received}
-use Rattle.segments.proofs.Outcomes.{receive_long, receive_out, receive_told}
+use Rattle.std.specs.Prelude.{Some, None, Err}
+use Rattle.std.proofs.Common.{◌≡◌, ◌∙◌, ap, refl, arith}
+use Rattle.door.specs.declared.Refusal.TheVariants as refusal
+use Rattle.segments.specs.Answers.{received_as}
+use Rattle.segments.proofs.Outcomes.{receive_long, receive_out, receive_told, in_turn}
 use Rattle.segments.proofs.receive.Goals as goal
 
 pub returns-then-area-gt40 : goal.returns-then-area-gt40
-returns-then-area-gt40 c = receive_long _ _ _ _ (omega arith)
+returns-then-area-gt40 c = receive_long _ _ _ _ c.if-area-gt40.true
 
-pub returns-in-Judging : goal.returns-in-Judging
-returns-in-Judging c = receive_told _ _ _ _ (omega arith) c.phase_of-phase.result c.phase_of-phase.ensures c.turn_of-turn.result c.turn_of-turn.ensures _ c.in-Judging.is refl _ c.after_judging-judged.ensures _ c.told.ensures
+pub returns-in_err-turn : goal.returns-in_err-turn
+returns-in_err-turn c =
+    let none : c.turn_of.result ≡ None = grind arith in
+    let out : c.from_residual.result ≡ Err refusal.OutOfTurn = grind arith in
+    ap (λ x. received_as x c.args.door) out ∙ receive_out _ _ _ _ c.if-area-gt40.false _ c.phase_of-phase.ensures _ c.turn_of.ensures _ none refl
 
-pub returns-in-Comparing : goal.returns-in-Comparing
-returns-in-Comparing c = receive_told _ _ _ _ (omega arith) c.phase_of-phase.result c.phase_of-phase.ensures c.turn_of-turn.result c.turn_of-turn.ensures _ c.in-Comparing.is refl _ c.after_comparing-compared.ensures _ c.told-in-Comparing.ensures
-
-pub returns-in-Presence : goal.returns-in-Presence
-returns-in-Presence c = receive_told _ _ _ _ (omega arith) c.phase_of-phase.result c.phase_of-phase.ensures c.turn_of-turn.result c.turn_of-turn.ensures _ c.in-Presence.is refl _ c.after_presence-present.ensures _ c.told-in-Presence.ensures
-
-pub returns-in-Unchanged : goal.returns-in-Unchanged
-unfolding received
-returns-in-Unchanged c = receive_told _ _ _ _ (omega arith) c.phase_of-phase.result c.phase_of-phase.ensures c.turn_of-turn.result c.turn_of-turn.ensures _ c.in-Unchanged.is refl _ refl _ c.told-in-Unchanged.ensures
-
-pub returns-in-OutOfTurn : goal.returns-in-OutOfTurn
-returns-in-OutOfTurn c = receive_out _ _ _ _ (omega arith) c.phase_of-phase.result c.phase_of-phase.ensures c.turn_of-turn.result c.turn_of-turn.ensures _ c.in-OutOfTurn.is refl
+pub returns : goal.returns
+returns c =
+    let some : c.turn_of.result ≡ Some c.in_ok-turn.turn = grind arith in
+    receive_told _ _ _ _ c.if-area-gt40.false _ c.phase_of-phase.ensures _ c.turn_of.ensures _ some (in_turn c.in_ok-turn.turn) _ c.after_turn-after.ensures _ c.reply_now.ensures

@@ -9,7 +9,7 @@ use Rattle.sha256.proofs.step.Goals as goal
 pub returns-then-rest-ge64 : goal.returns-then-rest-ge64
 returns-then-rest-ge64 c =
     let a = c.args in
-    stepped_whole a.s a.buf.now a.part.now a.i c.compress-g.result (omega arith) (omega arith) c.compress-g.ensures
+    stepped_whole a.s a.buf.now a.part.now a.i c.compress-h.result (omega arith) (omega arith) c.compress-h.ensures
 
 pub returns-then-rest-room : goal.returns-then-rest-room
 returns-then-rest-room c =
@@ -19,4 +19,4 @@ returns-then-rest-room c =
 pub returns : goal.returns
 returns c =
     let a = c.args in
-    stepped_full a.s a.buf.now a.part.now a.i (a.s.len % 64) (64 - a.s.len % 64) c.fill-2.new.buf refl (omega arith) (omega arith) (omega arith) c.fill-2.ensures c.compress-g-2.result (omega arith) c.compress-g-2.ensures
+    stepped_full a.s a.buf.now a.part.now a.i (a.s.len % 64) (64 - a.s.len % 64) c.fill-2.new.buf refl (omega arith) (omega arith) (omega arith) c.fill-2.ensures c.compress-h-2.result (omega arith) c.compress-h-2.ensures

@@ -5,12 +5,4 @@ use Rattle.sha256_block.proofs.round.Goals as goal
 pub returns : goal.returns
 returns c =
     let a = c.args in
-    round_made a.s a.k a.w _ _ _ _ _ _ _ _
-    c.big1.ensures
-    c.ch.ensures
-    c.sum5-t1.ensures
-    c.big0.ensures
-    c.maj.ensures
-    c.sum2-t2.ensures
-    c.sum2.ensures
-    c.sum2-2.ensures
+    round_made a.s a.k a.w c.big1.result c.ch.result c.big0.result c.maj.result c.big1.ensures c.ch.ensures c.big0.ensures c.maj.ensures

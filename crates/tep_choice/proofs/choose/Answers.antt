@@ -2,8 +2,8 @@
 use Rattle.tep_choice.proofs.First.{chosen_resumed, chosen_fresh}
 use Rattle.tep_choice.proofs.choose.Goals as goal
 
-pub returns-in-With : goal.returns-in-With
-returns-in-With c = chosen_resumed _ _ _ _ _ c.last_resumed-best.ensures _ _ c.in-With.is
+pub returns-in-Some : goal.returns-in-Some
+returns-in-Some c = chosen_resumed _ _ _ _ _ c.in-Some.ensures
 
-pub returns-in-Plain : goal.returns-in-Plain
-returns-in-Plain c = chosen_fresh _ _ _ _ _ c.last_resumed-best.ensures _ c.in-Plain.is _ c.last_fresh.ensures
+pub returns-in-None : goal.returns-in-None
+returns-in-None c = chosen_fresh _ _ _ _ _ _ _ c.in-None.ensures c.last_fresh.ensures c.numbered.ensures c.ok_or.ensures.value

@@ -1,27 +1,21 @@
--- `tep_choice::last_fresh` meets its contract. The loop's invariant: the last candidate of the list is that of its first i.
+-- `tep_choice::last_fresh` meets its contract.
 use Prim.Native.Nat.{◌-◌}
+use mathlib.Core.Path.{◌∙◌}
 use native.Mathlib.Omega.{arith}
+use lib.ListN.{length}
 use lib.Seq.{take-length}
-use Rattle.tep_choice.proofs.Lasting.{fresh_none, fresh_here, fresh_later}
+use Rattle.tep_choice.proofs.Lasting.{fresh_none, fresh_here, fresh_before}
 use Rattle.tep_choice.proofs.last_fresh.Goals as goal
 
-pub loop-i-init : goal.loop-i-init
-loop-i-init c = (omega arith, rw take-length)
-
-pub overflow_sub-i : goal.overflow_sub-i
-overflow_sub-i c = omega arith
-
-pub bounds-teps-i : goal.bounds-teps-i
-bounds-teps-i c = omega arith
-
 pub returns-then-is_candidate : goal.returns-then-is_candidate
-returns-then-is_candidate c = let l = c.loop-i in fresh_here _ _ l.i l.invariant.1 (l.i - 1) (omega arith) (omega arith) _ c.entry_of-e.ensures _ c.is_candidate.ensures c.if-is_candidate.true _ _ c.held_count-n.ensures.seen
+returns-then-is_candidate c =
+    let l = c.loop-left.left.now in
+    fresh_here c.args.entries l (length l) (rw take-length) (length l - 1) (omega arith) (omega arith) _ c.entry_of.ensures _ c.is_candidate.ensures c.if-is_candidate.true _ _ c.held_count.ensures.seen ∙ c.loop-left.invariant
 
-pub loop-i-smaller : goal.loop-i-smaller
-loop-i-smaller c = omega arith
-
-pub loop-i-preserved : goal.loop-i-preserved
-loop-i-preserved c = let l = c.loop-i in (omega arith, fresh_later _ _ l.i l.invariant.1 (l.i - 1) (omega arith) (omega arith) _ c.entry_of-e.ensures _ c.is_candidate.ensures c.if-is_candidate.false)
+pub loop-left-preserved : goal.loop-left-preserved
+loop-left-preserved c =
+    let l = c.loop-left.left.now in
+    fresh_before c.args.entries l (length l) (rw take-length) (length l - 1) (omega arith) (omega arith) _ c.entry_of.ensures _ c.is_candidate.ensures c.if-is_candidate.false _ ∙ c.loop-left.invariant
 
 pub returns : goal.returns
-returns c = let l = c.loop-i in fresh_none _ _ l.i l.invariant.1 (omega arith) _
+returns c = let l = c.loop-left.left.now in fresh_none c.args.entries l (length l) (rw take-length) (omega arith) _ ∙ c.loop-left.invariant

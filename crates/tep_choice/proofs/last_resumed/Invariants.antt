@@ -1,14 +1,11 @@
--- `tep_choice::last_resumed` meets its contract. The loop's invariant: the last TEP of the list that can be resumed is that of its first i.
-use Prim.Native.Nat.{◌-◌, ◌≤◌}
-use mathlib.Core.Path.{◌≡◌}
-use lib.ListN.{length, take}
+-- `tep_choice::last_resumed` meets its contract. The loop's invariant: what is found in the list is found in what is left of it.
+use Rattle.std.proofs.Common.{◌≡◌, length}
 use Rattle.door.specs.Door.{seen_of}
-use Rattle.door.specs.Answer.{last_that}
-use Rattle.tep_choice.specs.Choosing.{resumable_by}
+use Rattle.tep_choice.specs.Choosing.{last_resumed}
 use Rattle.tep_choice.proofs.last_resumed.Given as goal
 
-abbrev pub invariant-loop-i : goal.invariant-loop-i
-invariant-loop-i l = (l.i ≤ length l.teps) × (last_that (resumable_by l.option l.entries (seen_of l.view).held) l.teps ≡ last_that (resumable_by l.option l.entries (seen_of l.view).held) (take l.i l.teps))
+abbrev pub invariant-loop-left : goal.invariant-loop-left
+invariant-loop-left l = last_resumed l.option l.entries l.left (seen_of l.view).held ≡ last_resumed l.option l.entries l.teps (seen_of l.view).held
 
-abbrev pub decreases-loop-i : goal.decreases-loop-i
-decreases-loop-i l = l.i
+abbrev pub decreases-loop-left : goal.decreases-loop-left
+decreases-loop-left l = length l.left

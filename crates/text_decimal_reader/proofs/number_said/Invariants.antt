@@ -1,11 +1,6 @@
--- `number_said` meets its contract: the loop's invariant is `Reading`, the digits before place i make the value. The measure is what is left of the word.
-use Prim.Native.Nat.{◌-◌}
-use lib.ListN.{length}
+-- `number_said` meets its contract: the loop's invariant is `Reading`, the digits before a place make the value.
 use Rattle.text_decimal.specs.DecimalLaws.{Reading}
 use Rattle.text_decimal_reader.proofs.number_said.Given as goal
 
-abbrev pub invariant-loop-i : goal.invariant-loop-i
-invariant-loop-i l = Reading l.word l.i l.value
-
-abbrev pub decreases-loop-i : goal.decreases-loop-i
-decreases-loop-i l = length l.word - l.i
+abbrev pub invariant-loop-c : goal.invariant-loop-c
+invariant-loop-c l = Reading l.word l.c-index l.value

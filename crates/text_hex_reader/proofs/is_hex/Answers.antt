@@ -1,39 +1,20 @@
--- `is_hex` meets its contract: the loop's invariant is that the rest of the word decides. The measure is what is left of the word.
-use Prim.Native.Nat.{◌-◌}
-use mathlib.Core.Path.{refl, sym, ◌∙◌}
-use native.Mathlib.Omega.{arith}
+-- `is_hex` meets its contract: the loop's invariant is that the rest of the word decides.
+use Rattle.std.proofs.Common.{arith, sym, ◌∙◌, get_or}
+use Rattle.std.proofs.lemmas.Grind.{common_steps}
+use Rattle.text_hex.specs.Hex.{hex_value}
 use Rattle.text_hex.specs.HexLaws.{all_more, all_wrong, all_over}
+use Rattle.text_hex_reader.proofs.Digits.{no_digit, a_digit}
 use Rattle.text_hex_reader.proofs.is_hex.Goals as goal
 
-pub loop-i-init : goal.loop-i-init
-loop-i-init c = refl
+pub returns-then-is_none : goal.returns-then-is_none
+returns-then-is_none c =
+    let l = c.loop-c in
+    all_wrong c.args.word.now l.c-index (omega arith) (no_digit c.value.result (hex_value (get_or c.args.word.now l.c-index 0)) c.value.ensures.value (grind (arith, common_steps))) ∙ l.invariant
 
-pub bounds-word-i : goal.bounds-word-i
-bounds-word-i c = omega arith
-
-pub value-requires : goal.value-requires
-value-requires c = tt
-
-pub returns-then-value-gt15 : goal.returns-then-value-gt15
-returns-then-value-gt15 c =
-    let a = c.args in
-    let l = c.loop-i in
-    all_wrong a.word.now l.i (omega arith) (omega arith) ∙ l.invariant
-
-pub overflow_add-i : goal.overflow_add-i
-overflow_add-i c = omega arith
-
-pub loop-i-smaller : goal.loop-i-smaller
-loop-i-smaller c = omega arith
-
-pub loop-i-preserved : goal.loop-i-preserved
-loop-i-preserved c =
-    let a = c.args in
-    let l = c.loop-i in
-    sym (all_more a.word.now l.i (omega arith) (omega arith)) ∙ l.invariant
+pub loop-c-preserved : goal.loop-c-preserved
+loop-c-preserved c =
+    let l = c.loop-c in
+    sym (all_more c.args.word.now l.c-index (omega arith) (a_digit c.value.result (hex_value (get_or c.args.word.now l.c-index 0)) c.value.ensures.value c.value.ensures.digit (grind (arith, common_steps)))) ∙ l.invariant
 
 pub returns : goal.returns
-returns c =
-    let a = c.args in
-    let l = c.loop-i in
-    all_over a.word.now l.i (omega arith) ∙ l.invariant
+returns c = all_over c.args.word.now c.loop-c.c-index (omega arith) ∙ c.loop-c.invariant

@@ -6,11 +6,8 @@ use Rattle.text_lines.specs.Answers.{collected, collects}
 use Rattle.text_lines.specs.LineLaws.{counted, collecting_start, collecting_more, collecting_line, collecting_end, collecting_bytes}
 use Rattle.text_lines.proofs.collect.Goals as goal
 
-pub within-kept-requires : goal.within-kept-requires
-within-kept-requires c = tt
-
 pub loop-used-init : goal.loop-used-init
-loop-used-init c = let a = c.args in collecting_start a.line.now a.chunk.now a.from a.before a.long c.within-kept.result c.within-kept.ensures.0
+loop-used-init c = let a = c.args in collecting_start a.line.now a.chunk.now a.from a.before a.long c.min-kept.result c.min-kept.ensures
 
 pub bounds-chunk-used : goal.bounds-chunk-used
 bounds-chunk-used c = omega arith

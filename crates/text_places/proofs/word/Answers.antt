@@ -8,4 +8,4 @@ use Rattle.text_places.proofs.word.Goals as goal
 pub returns : goal.returns
 returns c =
     let a = c.args in
-    c.between.ensures ∙ (ap (λ n. take (n - a.at) (drop a.at a.s.now)) c.word_end-end.ensures.0 ∙ sym (word_part a.s.now a.at))
+    c.between.ensures ∙ (ap (λ n. take (n - a.at) (drop a.at a.s.now)) c.word_end.ensures.0 ∙ sym (word_part a.s.now a.at))

@@ -19,4 +19,4 @@ pub returns : goal.returns
 unfolding doors_n outcome
 returns c =
     let a = c.args in
-    (step_placed a.marks.now a.rows.now a.doors.now a.door (omega arith) _ c.position_at-position.ensures (close) _ _ _ _ c.close-closed.ensures c.put_door.ensures, put_kept a.doors.now _ a.door _ c.put_door.ensures)
+    (step_placed a.marks.now a.rows.now a.doors.now a.door (omega arith) _ c.position_at-position.ensures (close) _ _ _ _ c.close.ensures c.put_door.ensures, put_kept a.doors.now _ a.door _ c.put_door.ensures)

@@ -20,4 +20,4 @@ pub returns : goal.returns
 unfolding doors_n outcome seen_of
 returns c =
     let a = c.args in
-    step_counted a.marks.now a.rows.now a.doors.now a.door (omega arith) _ c.position_at-position.ensures count _ _ _ c.view_of-holder.ensures.1 (search rules)
+    step_counted a.marks.now a.rows.now a.doors.now a.door (omega arith) _ c.position_at-position.ensures count _ _ _ c.view_of-view.ensures.1 (search rules)

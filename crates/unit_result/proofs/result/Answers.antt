@@ -23,6 +23,6 @@ pub returns : goal.returns
 unfolding doors_n outcome
 returns c =
     let a = c.args in
-    let told = c.result-told.ensures in
-    let e = step_looked a.marks.now a.rows.now a.doors.now a.door (omega arith) _ c.position_at-position.ensures (result a.out.now) _ _ told.0 in
-    (e, told.1 ∙ ap (λ (o : Outcome). secret_beside o.reply) (sym told.0) ∙ ap (λ (s : Step). secret_beside s.told.reply) e)
+    let told = c.result.ensures in
+    let e = step_looked a.marks.now a.rows.now a.doors.now a.door (omega arith) _ c.position_at-position.ensures (result a.out.now) _ _ told.told in
+    (e, told.secret ∙ ap (λ (o : Outcome). secret_beside o.reply) (sym told.told) ∙ ap (λ (s : Step). secret_beside s.told.reply) e)

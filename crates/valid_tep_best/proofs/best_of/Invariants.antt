@@ -1,12 +1,7 @@
 -- `best_of` meets its contract: the loop's invariant is `Chosen`.
-use Prim.Native.Nat.{◌-◌}
 use Rattle.eno.specs.Session.{in_hand}
 use Rattle.valid_tep_best.proofs.Choosing.{Chosen}
-use Rattle.valid_tep_best.proofs.Steps.{best_as}
 use Rattle.valid_tep_best.proofs.best_of.Given as goal
 
 abbrev pub invariant-loop-t : goal.invariant-loop-t
-invariant-loop-t l = Chosen l.a l.b (in_hand l.hand) l.own_is_b l.own l.peer (best_as l.found l.start l.resumed) l.t
-
-abbrev pub decreases-loop-t : goal.decreases-loop-t
-decreases-loop-t l = 0x25 - l.t
+invariant-loop-t l = Chosen l.a l.b (in_hand l.hand) l.own_is_b l.own l.peer l.best l.t

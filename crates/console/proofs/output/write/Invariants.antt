@@ -1,13 +1,10 @@
--- `output::write`: what stands before the place in the text was appended to what the other end holds. The measure is the number of tries that are left.
+-- `output::write`: what stands before the place in the text was appended to what the other end holds.
 use Rattle.std.proofs.Common.{◌≤◌, length, take}
 use Rattle.std.specs.Io.KnownBytes.{Appends}
 use Rattle.console.proofs.output.write.Given as goal
 
-abbrev pub invariant-loop-tries : goal.invariant-loop-tries
-invariant-loop-tries g l = record {
+abbrev pub invariant-loop : goal.invariant-loop
+invariant-loop g l = record {
   within : l.done ≤ length l.text;
   appended : Appends (g.W.Write.contents l.initial.to) (g.W.Write.contents l.to) (take l.done l.text);
 }
-
-abbrev pub decreases-loop-tries : goal.decreases-loop-tries
-decreases-loop-tries g l = l.tries

@@ -1,2 +1,0 @@
--- Laws of the values that are made.
-pub mod Making

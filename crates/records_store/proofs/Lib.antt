@@ -1,2 +1,0 @@
--- Laws of arrays that are copied over.
-pub mod Filled

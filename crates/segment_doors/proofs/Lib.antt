@@ -1,2 +1,0 @@
--- Laws for the proofs of a door that is opened.
-pub mod Doors

@@ -1,0 +1,2 @@
+-- What receive answers, as the outcome of a door's call.
+pub mod Answers
