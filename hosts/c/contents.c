@@ -112,7 +112,8 @@ static void mark_bytes(uint8_t *bytes, size_t length, size_t door, uint32_t seri
     }
 }
 
-static bool is_mark(const uint8_t *at) { return at[0] == 0xd7 && at[1] == 0x5e && at[3] == 0xe9; }
+/* A mark names one of the doors: two copies over one another may have its other three bytes by chance. */
+static bool is_mark(const uint8_t *at) { return at[0] == 0xd7 && at[1] == 0x5e && 1 <= at[2] && at[2] <= DOOR_LINK_DOORS && at[3] == 0xe9; }
 
 #ifndef SANITIZED
 /* Whether a mark of another door stands on the stack that the call ran on; counts those of its own. */
