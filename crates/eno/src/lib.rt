@@ -1,4 +1,4 @@
-// What the crates over TCP-ENO options share: the TEPs that the unit knows, and the session record.
+// What the crates over TCP-ENO options share: the TEPs that the unit knows, the way in which one is valid, the session record, and the cause of plain TCP.
 #![tactic(auto)]
 
 ghost use Rattle.std.specs.Prelude.{◌≡◌, is_some};
