@@ -18,7 +18,10 @@ fn closed_up(numbers: [u8; EACH], j: usize) -> [u8; EACH]
     ensures { result ≡ cut j numbers ++ 0 ∷ [] }
 {
     let mut left = numbers;
-    left[j..].rotate_left(1);
+    // The library's `rotate_left` is C's memmove, which the header of the library for hosts does not ask of a host.
+    for k in j..LAST {
+        left[k] = numbers[k + 1];
+    }
     left[LAST] = 0;
     left
 }

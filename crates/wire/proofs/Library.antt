@@ -1,4 +1,4 @@
--- What the library's copy and comparisons of bytes are in the words of the specs. Assumes nothing.
+-- What the library's comparisons of bytes are in the words of the specs. Assumes nothing.
 use Rattle.std.proofs.Common.{◌≡◌, ℕ, ◌+◌, ◌≤◌, List, ◌++◌, Bool, true, false, length, take, drop, ap, ap₂, sym, ◌∙◌, arith, min, append_assoc, drop-drop, refl}
 use Rattle.std.specs.Bool.{Decides}
 use Rattle.std.specs.List.{between, starts_with}
@@ -11,12 +11,6 @@ use borrow.Rule.Slice.PartMut.{put_mid}
 use lib.Dec.{eqb}
 use Rattle.wire.specs.Bytes.{pasted, part, same_bytes, stands_at}
 use Rattle.wire.specs.ByteLaws.{pasted_fits, same_yes, same_no}
-
--- a part that now holds as many other bytes
-pub put_pasted : (s v t : List ℕ) (at n : ℕ) → at + length v ≤ length s → t ≡ v → n ≡ length v → put_mid at n s t ≡ pasted s at v
-put_pasted s v t at n h e k =
-    ap₂ (λ l m. take at s ++ (l ++ m)) e (drop-drop n at s ∙ ap (λ j. drop (at + j) s) k)
-    ∙ (sym (append_assoc (take at s) v (drop (at + length v) s)) ∙ sym (pasted_fits s at v h))
 
 -- a test that decides whether two lists are equal
 pub same_decided : (r : Bool) (a b : List ℕ) → Decides r (a ≡ b) → r ≡ same_bytes a b

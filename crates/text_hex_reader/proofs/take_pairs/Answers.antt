@@ -3,7 +3,7 @@ use Rattle.std.proofs.Common.{◌≡◌, ◌+◌, ◌*◌, sym, ◌∙◌, ap₂
 use lib.ListN.{length-set}
 use Rattle.text_hex.specs.Hex.{hex_value, pairs}
 use Rattle.text_hex.specs.HexLaws.{all_at, pairs_at}
-use Rattle.text_hex_reader.proofs.CopyLoop.{copied_step, copied_done}
+use Rattle.wire.proofs.CopyLoop.{copied_step, copied_done}
 use Rattle.text_hex_reader.proofs.Digits.{digit_is}
 use Rattle.text_hex_reader.proofs.take_pairs.Goals as goal
 
