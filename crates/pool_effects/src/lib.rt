@@ -28,6 +28,9 @@ pub fn enacted(
     }
     let session = row_session::session_after(change, added);
     if let Some(next) = row_list_after::list_after(position, change, free) {
+        if let Some(mark) = next.mark {
+            pool_rows::put_row(marks, rows, mark.row, mark.used, session);
+        }
         let numbers = next.numbers;
         let to = Position {
             door: after,
@@ -35,8 +38,5 @@ pub fn enacted(
             rows: numbers,
         };
         pool_doors::put_door(doors, d, to);
-        if let Some(mark) = next.mark {
-            pool_rows::put_row(marks, rows, mark.row, mark.used, session);
-        }
     }
 }
