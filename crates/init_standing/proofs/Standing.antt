@@ -1,17 +1,13 @@
 -- Laws of how the bytes at hand stand. Assumes nothing.
 use Prim.Native.Nat.{ℕ, ◌≤◌, ◌<◌}
 use mathlib.Core.Path.{◌≡◌, refl, sym, ◌∙◌, ap}
-use mathlib.Core.List.{List, [], ◌∷◌}
-use mathlib.Core.Bool.{Bool, true, false, ◌&&◌, false≢true}
-use native.Mathlib.Decide.{dec_lt}
+use mathlib.Core.List.{List}
+use mathlib.Core.Bool.{Bool, true, false, false≢true}
 use native.Mathlib.Omega.{arith}
 use borrow.Author.Tests.{lt-ltb, le-ltb}
-use lib.Dec.{eqb}
 use lib.ListN.{length, take}
-use lib.Pointwise.{pointwise}
 use lib.Seq.{take_all}
-use Rattle.std.specs.Prelude.{nat_eq}
-use Rattle.wire.specs.Bytes.{same_bytes}
+use Rattle.wire.specs.Bytes.{part, same_bytes, stands_at}
 use Rattle.wire.specs.ByteLaws.{same_yes, same_eq, same_no}
 use Rattle.wire.specs.Number.{number_at}
 use Rattle.init_layout.specs.Layout.{most_length}
@@ -25,33 +21,15 @@ same_swap a b = go (same_bytes a b) refl
     go true e = same_yes a ∙ ap (λ l. same_bytes l a) (same_eq a b e)
     go false e = same_no b a (λ q. false≢true (sym e ∙ (ap (λ l. same_bytes a l) q ∙ sym (same_yes a))))
 
--- the comparison of slices of bytes
-pub same_pointwise : (a b : List ℕ) → pointwise nat_eq a b ≡ same_bytes a b
-unfolding same_bytes
-same_pointwise [] [] = refl
-same_pointwise [] (y ∷ b) = refl
-same_pointwise (x ∷ a) [] = refl
-same_pointwise (x ∷ a) (y ∷ b) = ap (λ t. eqb x y && t) (same_pointwise a b)
-
 -- the magic
 module _ (m p : List ℕ) where
-  pub begins_short : length p ≤ length m → pointwise nat_eq p (take (length p) m) ≡ agrees m p
-  unfolding agrees
-  begins_short h = same_pointwise p (take (length p) m) ∙ ap (λ l. same_bytes l (take (length p) m)) (sym (take_all (length m) p h))
+  pub begins_short : length p < length m → stands_at m 0 p ≡ agrees m p
+  unfolding agrees stands_at part
+  begins_short h = same_swap (take (length p) m) p ∙ ap (λ l. same_bytes l (take (length p) m)) (sym (take_all (length m) p (omega arith)))
 
-  begins_long : length m ≤ length p → pointwise nat_eq m (take (length m) p) ≡ agrees m p
-  unfolding agrees
-  begins_long h =
-      same_pointwise m (take (length m) p)
-      ∙ (same_swap m (take (length m) p) ∙ ap (λ l. same_bytes (take (length m) p) l) (sym (take_all (length p) m h)))
-
-  pub begins_other : (r : Bool) → (r ≡ true → length m ≤ length p) → r ≡ pointwise nat_eq m (take (length m) p) → false ≡ pointwise nat_eq p (take (length p) m) → r ≡ agrees m p
-  begins_other true long e f = e ∙ begins_long (long refl)
-  begins_other false long e f =
-      elim (dec_lt (length p) (length m)) [
-        | yes h ↦ f ∙ begins_short (omega arith)
-        | no h ↦ e ∙ begins_long (omega arith)
-      ]
+  pub begins_long : length m ≤ length p → stands_at p 0 m ≡ agrees m p
+  unfolding agrees stands_at part
+  begins_long h = ap (λ l. same_bytes (take (length m) p) l) (sym (take_all (length p) m h))
 
 -- how the bytes stand
 module _ (m : List ℕ) (fields : ℕ) (p : List ℕ) where

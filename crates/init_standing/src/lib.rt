@@ -14,7 +14,11 @@ const MOST: usize = 4096;
 fn begins(magic: &[u8], s: &[u8]) -> bool
     ensures { result ≡ agrees magic.now s.now }
 {
-    magic.starts_with(s) || s.starts_with(magic)
+    if s.len() < magic.len() {
+        wire::stands_at(magic, 0, s)
+    } else {
+        wire::stands_at(s, 0, magic)
+    }
 }
 
 // How the bytes at hand stand, for a magic and for fields that end at a place: the length of the whole message.

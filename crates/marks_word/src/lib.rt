@@ -10,5 +10,5 @@ ghost use Rattle.unit.specs.Unit.{first_free};
 pub fn trailing_marked(word: u32) -> u32
     ensures { result ≡ first_free (bits_of word_n word) }
 {
-    word.trailing_ones()
+    (!word).trailing_zeros()
 }

@@ -1,5 +1,4 @@
 -- `marks_word::trailing_marked` meets its contract.
-use mathlib.Core.Path.{◌∙◌}
 use native.Mathlib.Omega.{arith}
 use Rattle.unit.specs.Numbers.{word_n}
 use Rattle.marks_word.proofs.Trailing.{trailing_free}
@@ -7,4 +6,4 @@ use Rattle.marks_word.proofs.trailing_marked.Goals as goal
 
 pub returns : goal.returns
 unfolding word_n
-returns c = c.trailing_ones.ensures ∙ trailing_free 32 c.args.word (omega arith)
+returns c = trailing_free 32 c.args.word (omega arith)
