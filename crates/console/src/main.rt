@@ -34,20 +34,21 @@ const TURNS: u64 = 0x8000_0000_0000_0000;
 fn run_call(
     rt: HostRuntime,
     console: &mut Console,
+    reply: &mut Line,
     asked: Asked,
     said: &Said,
     room: &mut [u8],
 ) -> io::Result<()> {
-    let mut reply = Line::empty();
+    reply.clear();
     let length = asked.lent.map_or(0, |n| n.min(room.len()));
     let lent = &mut room[..length];
-    console.call(asked.form, said, lent, &mut reply);
+    console.call(asked.form, said, lent, reply);
     if asked.lent.is_some() {
         reply.hex(lent);
     }
-    output::finish(&mut rt.stdout(), &mut reply)?;
+    output::finish(&mut rt.stdout(), reply)?;
     if asked.form == Form::Help {
-        unfit::help(rt);
+        unfit::help(rt, reply);
     }
     Ok(())
 }
@@ -56,6 +57,7 @@ fn run_call(
 fn run_line(
     rt: HostRuntime,
     console: &mut Console,
+    reply: &mut Line,
     number: u64,
     line: &[u8],
     long: bool,
@@ -65,14 +67,16 @@ fn run_line(
     let mut lent = [0u8; 10000];
     match lines::parse(line, long, &mut said, &mut lent) {
         Ok(None) => Ok(()),
-        Ok(Some(asked)) => run_call(rt, console, asked, &said, &mut lent),
-        Err(unfit) => unfit::say(rt, number, unfit),
+        Ok(Some(asked)) => run_call(rt, console, reply, asked, &said, &mut lent),
+        Err(unfit) => unfit::say(rt, reply, number, unfit),
     }
 }
 
 // Runs the input to its end, or to a reply that cannot be written.
 fn run(rt: HostRuntime) {
     let mut console = Console::new();
+    // One for all lines: a line of its own for each reply would be zeroed each time.
+    let mut reply = Line::empty();
     let mut chunk = [0u8; 65536];
     // A line's 20,000 bytes, and a carriage return.
     let mut line = [0u8; 20001];
@@ -86,7 +90,7 @@ fn run(rt: HostRuntime) {
         if place.whole {
             number = number.wrapping_add(1);
             let whole = text_lines::without_return(text_words::first(&line, place.length));
-            if let Err(error) = run_line(rt, &mut console, number, whole, place.long) {
+            if let Err(error) = run_line(rt, &mut console, &mut reply, number, whole, place.long) {
                 output::failed(rt, b"console: standard output", &error);
                 return;
             }

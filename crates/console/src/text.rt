@@ -20,6 +20,11 @@ impl Line {
         }
     }
 
+    // Nothing stands in it any more: what is behind `end` is no part of a line.
+    pub fn clear(&mut self) {
+        self.end = 0;
+    }
+
     pub fn text(&self) -> &[u8] {
         text_words::first(&self.bytes, self.end)
     }

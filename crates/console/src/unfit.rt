@@ -50,19 +50,19 @@ fn put_expected(line: &mut Line, unfit: Unfit) {
 }
 
 // error on standard output, and on standard error the line's number and what was expected. An Err says that error was not written.
-pub fn say(rt: HostRuntime, number: u64, unfit: Unfit) -> io::Result<()> {
+pub fn say(rt: HostRuntime, line: &mut Line, number: u64, unfit: Unfit) -> io::Result<()> {
     output::write(&mut rt.stdout(), b"error\n")?;
-    let mut line = Line::empty();
+    line.clear();
     line.counted(b"line", number);
     line.put(b": ");
-    put_expected(&mut line, unfit);
-    let _ = output::finish(&mut rt.stderr(), &mut line);
+    put_expected(line, unfit);
+    let _ = output::finish(&mut rt.stderr(), line);
     Ok(())
 }
 
 // The forms, a line each, on standard error.
-pub fn help(rt: HostRuntime) {
-    let mut lines = Line::empty();
+pub fn help(rt: HostRuntime, lines: &mut Line) {
+    lines.clear();
     for (_, text, _) in &FORMS {
         lines.put(text);
         lines.put(b"\n");
