@@ -29,7 +29,7 @@ module _ (es : List Entry) (list : List ℕ) (i : ℕ) (passed : last_that (is_c
     unfolding last_fresh fresh_by
     fresh_here y held n q = sym (rw (last_here (is_candidate_by es) list i passed j next within (told ∙ y)) (ap (λ k. with (chosen (get_or list j 0) k)) (sym q)))
 
-    fresh_later : b ≡ false → last_that (is_candidate_by es) list ≡ last_that (is_candidate_by es) (take j list)
+    pub fresh_later : b ≡ false → last_that (is_candidate_by es) list ≡ last_that (is_candidate_by es) (take j list)
     fresh_later y = last_later (is_candidate_by es) list i passed j next within (told ∙ y)
 
     pub fresh_before : b ≡ false → (held : List SessionRecord) → last_fresh es (take j list) held ≡ last_fresh es list held
@@ -53,7 +53,7 @@ module _ (o : List ℕ) (es : List Entry) (list : List ℕ) (held : List Session
         let y : ltb (fitting_by o (get_or list j 0) (entry_of es (get_or list j 0)) held) (length held) ≡ true = sym (ap (λ k. ltb k (length held)) fits_at) ∙ lt-ltb _ _ h in
         sym (rw (last_here (resumable_by o es held) list i passed j next within y) (ap (λ k. with (chosen (get_or list j 0) k)) (sym fits_at)))
 
-    resumed_later : length held ≤ at → last_that (resumable_by o es held) list ≡ last_that (resumable_by o es held) (take j list)
+    pub resumed_later : length held ≤ at → last_that (resumable_by o es held) list ≡ last_that (resumable_by o es held) (take j list)
     unfolding resumable_by
     resumed_later h =
         let y : ltb (fitting_by o (get_or list j 0) (entry_of es (get_or list j 0)) held) (length held) ≡ false = sym (ap (λ k. ltb k (length held)) fits_at) ∙ le-ltb _ _ h in
