@@ -38,7 +38,7 @@ pub const RESUMED: usize = 7;
 pub const HELD: usize = 10;
 
 // The N bytes from place `at` on; a byte past the end reads as 0.
-#[tactic(auto, using(wire_reader::proofs::Padded::padded))]
+#[tactic(auto, using(crate::proofs::Padded::padded))]
 pub fn part_at<const N: usize>(bytes: &[u8], at: usize) -> [u8; N]
     ensures { result ≡ bytes_from N bytes.now at }
 {
