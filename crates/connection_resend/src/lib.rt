@@ -21,7 +21,9 @@ pub fn resend(door: Door, out: &mut [u8]) -> Result<Reply, Refusal>
     if !may_send(door_data::phase_of(door.phase)) {
         return Err(Refusal::OutOfTurn);
     }
-    let own = &door.own[..door_data::kept_length(door.own_length)];
+    // A copy of these 40 bytes, so that the whole door need not lie in memory.
+    let bytes = door.own;
+    let own = &bytes[..door_data::kept_length(door.own_length)];
     if out.len() < own.len() {
         return Err(Refusal::NoRoom);
     }

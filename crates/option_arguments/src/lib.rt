@@ -11,7 +11,13 @@ use eno::{InHand, Tep};
 pub fn is_listed(t: u8, list: &[u8]) -> bool
     ensures { result ≡ is_listed t list.now }
 {
-    list.contains(&t)
+    // At most four are listed: the library's `contains`, which looks at sixteen bytes at once, is a call that costs more than they do.
+    for listed in list {
+        if *listed == t {
+            return true;
+        }
+    }
+    false
 }
 
 // Whether each of a list is a TEP that the unit knows, and none is repeated.
